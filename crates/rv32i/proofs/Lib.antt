@@ -1,0 +1,7 @@
+pub mod CaseTable
+pub mod Masks
+pub mod Numbered
+pub mod Ors
+pub mod Round
+pub mod SixFields
+pub mod Table

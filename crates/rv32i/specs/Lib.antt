@@ -1,0 +1,7 @@
+pub mod Causes
+pub mod Fields
+pub mod Immediates
+pub mod Operations
+pub mod Registers
+pub mod Search
+pub mod Words

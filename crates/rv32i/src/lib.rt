@@ -1,0 +1,8 @@
+//! The forty instructions of RV32I: their words, and what each does, in the pieces that a machine composes.
+pub mod cause;
+pub mod decoding;
+pub mod encoding;
+pub mod fields;
+pub mod instruction;
+pub mod register;
+pub mod registers;

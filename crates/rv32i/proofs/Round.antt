@@ -266,18 +266,20 @@ restored Ebreak = refl
 
 -- ---- encoding undoes decoding
 
--- what holds at each code of a column, and where there is none, holds of what is picked
-abbrev Each : (Option Operation → Type 0) → ℕ → Column → Type 0
-Each P n [] = P None
-Each P n (e ∷ es) = (n ≡ e .0 → P (e .1)) × Each P n es
+-- what holds at each code of a column, and where there is none
+data Each (P : Option Operation → Type 0) (n : ℕ) : Column → Type 0 where
+  nowhere : P None → Each P n []
+  _at-or_ : {c : ℕ} {x : Option Operation} {es : Column} → (n ≡ c → P x) → Each P n es → Each P n ((c, x) ∷ es)
 
+infixr 20 _at-or_
 picked-by : (P : Option Operation → Type 0) (b : Bool) (n c : ℕ) (x y : Option Operation) → eqb n c ≡ b → (n ≡ c → P x) → P y → P (cond b x y)
 picked-by P true n c x y e f k = f (eqb-true n c e)
 picked-by P false n c x y e f k = k
 
-picked : (P : Option Operation → Type 0) (n : ℕ) (es : Column) → Each P n es → P (pick n es)
-picked P n [] k = k
-picked P n (e ∷ es) k = picked-by P (eqb n (e .0)) n (e .0) (e .1) (pick n es) refl (k .0) (picked P n es (k .1))
+-- holds of what is picked
+picked : {P : Option Operation → Type 0} {n : ℕ} {es : Column} → Each P n es → P (pick n es)
+picked (nowhere k) = k
+picked {P} {n} (_at-or_ {c} {x} {es} k ks) = picked-by P (eqb n c) n c x (pick n es) refl k (picked ks)
 
 module _ (d f3 r1 r2 f7 : ℕ) (h1 : d < 2 ^ 5) (h2 : f3 < 2 ^ 3) (h3 : r1 < 2 ^ 5) (h4 : r2 < 2 ^ 5) (h5 : f7 < 2 ^ 7) where
   undone-u : (op : ℕ) → word-u op (d % 32) (upper f3 r1 r2 f7) ≡ Ok (word-of op d f3 r1 r2 f7)
@@ -322,142 +324,78 @@ module _ (d f3 r1 r2 f7 : ℕ) (h1 : d < 2 ^ 5) (h2 : f3 < 2 ^ 3) (h3 : r1 < 2 ^
   at-register : (o : RegisterOp) (op : ℕ) → op ≡ 0x33 → f3 ≡ register-codes o .0 → f7 ≡ register-codes o .1 → Kept op (Some (ARegister o))
   at-register o op e g k = λ _. rw (e, ← g, ← k) (ap (λ (x : ℕ). Ok x) undone-register)
 
-  at-plain : (op : ℕ) (o : Operation) → (f7 ≡ 0x00 → Kept op (Some o)) → Kept op (pick f7 (plain o))
-  at-plain op o k = picked (Kept op) f7 (plain o) (k, tt)
-
-  at-two : (op : ℕ) (o p : Operation) → (f7 ≡ 0x00 → Kept op (Some o)) → (f7 ≡ 0x20 → Kept op (Some p)) → Kept op (pick f7 (plain-or-20 o p))
-  at-two op o p k l = picked (Kept op) f7 (plain-or-20 o p) (k, (l, tt))
-
   module _ (op : ℕ) where
-    at-branches : op ≡ 0x63 → Kept op (pick f3 branches)
-    at-branches e = picked (Kept op) f3 branches (
-      at-branch Eq op e,
-      (
-        at-branch Ne op e,
-        (
-          at-branch Lt op e,
-          (
-            at-branch Ge op e,
-            (
-              at-branch Ltu op e,
-              (
-                at-branch Geu op e,
-                tt,
-              ),
-            ),
-          ),
-        ),
-      ),
-    )
+    abbrev Each-kept : ℕ → Column → Type 0
+    Each-kept = Each (Kept op)
 
-    at-loads : op ≡ 0x03 → Kept op (pick f3 loads)
-    at-loads e = picked (Kept op) f3 loads (at-load Byte op e, (at-load Half op e, (at-load Word op e, (at-load ByteUnsigned op e, (at-load HalfUnsigned op e, tt)))))
+    at-plain : (o : Operation) → (f7 ≡ 0x00 → Kept op (Some o)) → Kept op (pick f7 (plain o))
+    at-plain o k = let all : Each-kept f7 (plain o) = k at-or nowhere tt in picked all
 
-    at-stores : op ≡ 0x23 → Kept op (pick f3 stores)
-    at-stores e = picked (Kept op) f3 stores (at-store ByteStored op e, (at-store HalfStored op e, (at-store WordStored op e, tt)))
+    at-two : (o p : Operation) → (f7 ≡ 0x00 → Kept op (Some o)) → (f7 ≡ 0x20 → Kept op (Some p)) → Kept op (pick f7 (plain-or-20 o p))
+    at-two o p k l = let all : Each-kept f7 (plain-or-20 o p) = k at-or l at-or nowhere tt in picked all
 
-    at-immediates : op ≡ 0x13 → Kept op (pick f3 (immediates f7))
+    at-branches : op ≡ 0x63 → Each-kept f3 branches
+    at-branches e = at-branch Eq op e at-or at-branch Ne op e at-or at-branch Lt op e at-or at-branch Ge op e at-or at-branch Ltu op e at-or at-branch Geu op e at-or nowhere tt
+
+    at-loads : op ≡ 0x03 → Each-kept f3 loads
+    at-loads e = at-load Byte op e at-or at-load Half op e at-or at-load Word op e at-or at-load ByteUnsigned op e at-or at-load HalfUnsigned op e at-or nowhere tt
+
+    at-stores : op ≡ 0x23 → Each-kept f3 stores
+    at-stores e = at-store ByteStored op e at-or at-store HalfStored op e at-or at-store WordStored op e at-or nowhere tt
+
+    at-immediates : op ≡ 0x13 → Each-kept f3 (immediates f7)
     at-immediates e =
-        picked (Kept op) f3 (immediates f7) (
-          at-immediate AddImm op e,
-          (
-            at-immediate SltImm op e,
-            (
-              at-immediate SltuImm op e,
-              (
-                at-immediate XorImm op e,
-                (
-                  at-immediate OrImm op e,
-                  (
-                    at-immediate AndImm op e,
-                    (
-                      (λ g. at-plain op (AShift SllImm) (at-shift SllImm op e g)),
-                      (
-                        (λ g. at-two op (AShift SrlImm) (AShift SraImm) (at-shift SrlImm op e g) (at-shift SraImm op e g)),
-                        tt,
-                      ),
-                    ),
-                  ),
-                ),
-              ),
-            ),
-          ),
-        )
+        at-immediate AddImm op e
+        at-or at-immediate SltImm op e
+        at-or at-immediate SltuImm op e
+        at-or at-immediate XorImm op e
+        at-or at-immediate OrImm op e
+        at-or at-immediate AndImm op e
+        at-or (λ g. at-plain (AShift SllImm) (at-shift SllImm op e g))
+        at-or (λ g. at-two (AShift SrlImm) (AShift SraImm) (at-shift SrlImm op e g) (at-shift SraImm op e g))
+        at-or nowhere tt
 
-    at-registers : op ≡ 0x33 → Kept op (pick f3 (registers f7))
+    at-registers : op ≡ 0x33 → Each-kept f3 (registers f7)
     at-registers e =
-        picked (Kept op) f3 (registers f7) (
-          (λ g. at-two op (ARegister Add) (ARegister Sub) (at-register Add op e g) (at-register Sub op e g)),
-          (
-            (λ g. at-plain op (ARegister Sll) (at-register Sll op e g)),
-            (
-              (λ g. at-plain op (ARegister Slt) (at-register Slt op e g)),
-              (
-                (λ g. at-plain op (ARegister Sltu) (at-register Sltu op e g)),
-                (
-                  (λ g. at-plain op (ARegister Xor) (at-register Xor op e g)),
-                  (
-                    (λ g. at-two op (ARegister Srl) (ARegister Sra) (at-register Srl op e g) (at-register Sra op e g)),
-                    (
-                      (λ g. at-plain op (ARegister Or) (at-register Or op e g)),
-                      (
-                        (λ g. at-plain op (ARegister And) (at-register And op e g)),
-                        tt,
-                      ),
-                    ),
-                  ),
-                ),
-              ),
-            ),
-          ),
-        )
+        (λ g. at-two (ARegister Add) (ARegister Sub) (at-register Add op e g) (at-register Sub op e g))
+        at-or (λ g. at-plain (ARegister Sll) (at-register Sll op e g))
+        at-or (λ g. at-plain (ARegister Slt) (at-register Slt op e g))
+        at-or (λ g. at-plain (ARegister Sltu) (at-register Sltu op e g))
+        at-or (λ g. at-plain (ARegister Xor) (at-register Xor op e g))
+        at-or (λ g. at-two (ARegister Srl) (ARegister Sra) (at-register Srl op e g) (at-register Sra op e g))
+        at-or (λ g. at-plain (ARegister Or) (at-register Or op e g))
+        at-or (λ g. at-plain (ARegister And) (at-register And op e g))
+        at-or nowhere tt
 
-    at-calls : op ≡ 0x73 → Kept op (pick (f7 * 2 ^ 18 + r2 * 2 ^ 13 + r1 * 2 ^ 8 + f3 * 2 ^ 5 + d) calls)
-    at-calls e =
-        picked (Kept op) (f7 * 2 ^ 18 + r2 * 2 ^ 13 + r1 * 2 ^ 8 + f3 * 2 ^ 5 + d) calls (
-          (λ g _. ap (λ (x : ℕ). Ok x) (omega arith)),
-          (
-            (λ g _. ap (λ (x : ℕ). Ok x) (omega arith)),
-            tt,
-          ),
-        )
+    at-jalr : op ≡ 0x67 → Each-kept f3 jumps-by-register
+    at-jalr e = (λ g _. rw (e, g) (rw g at (undone-i 0x67))) at-or nowhere tt
 
-    undone-by : Kept op (operation-by op f3 f7 (f7 * 2 ^ 18 + r2 * 2 ^ 13 + r1 * 2 ^ 8 + f3 * 2 ^ 5 + d))
-    undone-by =
-        picked (Kept op) op (opcodes f3 f7 (f7 * 2 ^ 18 + r2 * 2 ^ 13 + r1 * 2 ^ 8 + f3 * 2 ^ 5 + d)) (
-          (λ e _. rw e (undone-u 0x37)),
-          (
-            (λ e _. rw e (undone-u 0x17)),
-            (
-              (λ e _. rw e (undone-j 0x6f)),
-              (
-                (λ e. picked (Kept op) f3 jumps-by-register ((λ g _. rw (e, g) (rw g at (undone-i 0x67))), tt)),
-                (
-                  at-branches,
-                  (
-                    at-loads,
-                    (
-                      at-stores,
-                      (
-                        at-immediates,
-                        (
-                          at-registers,
-                          (
-                            (λ e. picked (Kept op) f3 fences ((λ g h. ap (λ (x : ℕ). Ok x) (sym (h refl))), tt)),
-                            (
-                              at-calls,
-                              tt,
-                            ),
-                          ),
-                        ),
-                      ),
-                    ),
-                  ),
-                ),
-              ),
-            ),
-          ),
-        )
+    at-fence : op ≡ 0x0f → Each-kept f3 fences
+    at-fence e = (λ g h. ap (λ (x : ℕ). Ok x) (sym (h refl))) at-or nowhere tt
+
+    abbrev rest : ℕ
+    rest = f7 * 2 ^ 18 + r2 * 2 ^ 13 + r1 * 2 ^ 8 + f3 * 2 ^ 5 + d
+
+    at-calls : op ≡ 0x73 → Each-kept rest calls
+    at-calls e = (λ g _. ap (λ (x : ℕ). Ok x) (omega arith)) at-or (λ g _. ap (λ (x : ℕ). Ok x) (omega arith)) at-or nowhere tt
+
+    at-opcodes : Each-kept op (opcodes f3 f7 rest)
+    at-opcodes =
+        (λ e _. rw e (undone-u 0x37))
+        at-or (λ e _. rw e (undone-u 0x17))
+        at-or (λ e _. rw e (undone-j 0x6f))
+        at-or (λ e. picked (at-jalr e))
+        at-or (λ e. picked (at-branches e))
+        at-or (λ e. picked (at-loads e))
+        at-or (λ e. picked (at-stores e))
+        at-or (λ e. picked (at-immediates e))
+        at-or (λ e. picked (at-registers e))
+        at-or (λ e. picked (at-fence e))
+        at-or (λ e. picked (at-calls e))
+        at-or nowhere tt
+
+    undone-by : Kept op (operation-by op f3 f7 rest)
+    undone-by = picked at-opcodes
 
 pub undone : (w : ℕ) → w < 2 ^ 32 → Undone (decoded w) w
 unfolding decoded

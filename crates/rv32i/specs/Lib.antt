@@ -1,4 +1,5 @@
 pub mod Causes
+pub mod Effects
 pub mod Fields
 pub mod Immediates
 pub mod Operations

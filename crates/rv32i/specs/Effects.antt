@@ -136,18 +136,19 @@ arithmetic Sra a b = shifted-signed a (b % 32)
 arithmetic Or a b = bitOr a b
 arithmetic And a b = bitAnd a b
 
-abbrev pub immediate-arithmetic : ImmediateOp → ℕ → ℕ → ℕ
-immediate-arithmetic AddImm a b = arithmetic Add a b
-immediate-arithmetic SltImm a b = arithmetic Slt a b
-immediate-arithmetic SltuImm a b = arithmetic Sltu a b
-immediate-arithmetic XorImm a b = arithmetic Xor a b
-immediate-arithmetic OrImm a b = arithmetic Or a b
-immediate-arithmetic AndImm a b = arithmetic And a b
+-- with an immediate as the second operand
+abbrev pub immediate-op : ImmediateOp → RegisterOp
+immediate-op AddImm = Add
+immediate-op SltImm = Slt
+immediate-op SltuImm = Sltu
+immediate-op XorImm = Xor
+immediate-op OrImm = Or
+immediate-op AndImm = And
 
-abbrev pub shifted : ShiftOp → ℕ → ℕ → ℕ
-shifted SllImm a n = arithmetic Sll a n
-shifted SrlImm a n = arithmetic Srl a n
-shifted SraImm a n = arithmetic Sra a n
+abbrev pub shift-op : ShiftOp → RegisterOp
+shift-op SllImm = Sll
+shift-op SrlImm = Srl
+shift-op SraImm = Sra
 
 -- whether a branch is taken
 abbrev pub holds : Condition → ℕ → ℕ → Bool
@@ -189,8 +190,8 @@ executed (Jalr d r z) p a b = jumps (following p) (offset-from a z / 2 * 2) None
 executed (Branch c r q z) p a b = branches p (offset-from p z) (holds c a b)
 executed (Load k d r z) p a b = Ok (goes-on p (offset-from a z))
 executed (Store k r q z) p a b = Ok (goes-on p (offset-from a z))
-executed (Immediate o d r z) p a b = Ok (goes-on p (immediate-arithmetic o a (bits-of z)))
-executed (Shift o d r n) p a b = Ok (goes-on p (shifted o a n))
+executed (Immediate o d r z) p a b = Ok (goes-on p (arithmetic (immediate-op o) a (bits-of z)))
+executed (Shift o d r n) p a b = Ok (goes-on p (arithmetic (shift-op o) a n))
 executed (Register o d r q) p a b = Ok (goes-on p (arithmetic o a b))
 executed Fence p a b = Ok (goes-on p 0)
 executed Ecall p a b = Ok (goes-on p 0)
@@ -247,16 +248,16 @@ request size (Some (Loads k)) x b = accepted size (load-width k) x LoadMisaligne
 request size (Some (Stores k)) x b =
     accepted size (store-width k) x StoreMisaligned StoreOutside (Write (word-address x) (b * 2 ^ (8 * (x % 4)) % 2 ^ 32) (lanes-of k x))
 
--- the word w that holds the byte at x, from that byte on
-abbrev pub from-byte : ℕ → ℕ → ℕ
-from-byte x w = w / 2 ^ (8 * (x % 4))
+-- what a load makes of a word whose lowest byte is the first that it reads
+abbrev pub extracted : LoadKind → ℕ → ℕ
+extracted Byte w = bits-of (signed (2 ^ 7) (w % 2 ^ 8))
+extracted Half w = bits-of (signed (2 ^ 15) (w % 2 ^ 16))
+extracted Word w = w
+extracted ByteUnsigned w = w % 2 ^ 8
+extracted HalfUnsigned w = w % 2 ^ 16
 
--- what a load makes of the word that it is answered; all else keeps its result
+-- what an instruction with the result x makes of the word that holds the byte at x; all but loads keep the result
 unfoldable pub loaded : Option Access → ℕ → ℕ → ℕ
 loaded None x w = x
+loaded (Some (Loads k)) x w = extracted k (w / 2 ^ (8 * (x % 4)))
 loaded (Some (Stores k)) x w = x
-loaded (Some (Loads Byte)) x w = bits-of (signed (2 ^ 7) (from-byte x w % 2 ^ 8))
-loaded (Some (Loads Half)) x w = bits-of (signed (2 ^ 15) (from-byte x w % 2 ^ 16))
-loaded (Some (Loads Word)) x w = w
-loaded (Some (Loads ByteUnsigned)) x w = from-byte x w % 2 ^ 8
-loaded (Some (Loads HalfUnsigned)) x w = from-byte x w % 2 ^ 16

@@ -3,8 +3,13 @@ ghost use mathlib.Core.Path.{_≡_};
 ghost use Prim.Native.Nat.{_≤_};
 ghost use Rattle.base.specs.declared.bus.Request.the-variants.{Read, Write};
 ghost use Rattle.memory.specs.Meaning.{Meaning, Lawful, Settled, peeked, of-read, of-write};
+
+mod flat;
+
 use base::bus::Lanes;
 use base::bus::Request;
+pub use flat::Flat;
+pub use flat::FlatMemory;
 
 /// What a memory replies to a request.
 #[derive(Clone, Copy, PartialEq, Eq, Debug)]

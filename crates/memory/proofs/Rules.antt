@@ -1,7 +1,10 @@
 -- What the rules of a memory give over several clocks. Assumes nothing.
 use mathlib.Core.Path.{_≡_, refl, sym, ap, _∙_}
-use mathlib.Core.Bool.{Bool}
-use Prim.Native.Nat.{ℕ, _<_, _≤_}
+use mathlib.Core.Bool.{Bool, true, false, cond}
+use native.Mathlib.Omega.{arith}
+use Rattle.std.proofs.shelf.Tests.{ltb-true, and-parts}
+use Prim.Native.Nat.{ℕ, _%_, _<_}
+use lib.Dec.{eqb, ltb}
 use Rattle.base.specs.Bytes.{within, word, put}
 use Rattle.base.specs.declared.bus.Lanes.{Lanes}
 use Rattle.base.specs.declared.bus.Request.{Request}
@@ -11,8 +14,8 @@ use Rattle.memory.specs.declared.Reply.the-variants.{Word, Done, Wait, Outside
 use Rattle.memory.specs.Meaning.{View, Meaning, Lawful, Same, Changed, Served, Settled, place}
 
 module _ {M : Type 0} (v : View M) where
-  pub same-here : (m : M) → Same v m m
-  same-here m = record { size = refl; byte = λ x. refl; longest = refl }
+  pub same-as : {m n : M} → n ≡ m → Same v m n
+  same-as e = record { size = ap (v .size) e; byte = λ x. ap (λ k. v .byte k x) e; longest = ap (v .longest) e }
 
   pub same-on : {k m n : M} → Same v k m → Same v m n → Same v k n
   same-on s t = record { size = t .size ∙ s .size; byte = λ x. t .byte x ∙ s .byte x; longest = t .longest ∙ s .longest }
@@ -34,12 +37,16 @@ module _ {M : Type 0} (v : View M) where
   settled k m n (Write a w l) Wait s h no-wait = no-wait refl
   settled k m n (Write a w l) Outside s h no-wait = (within-on a _ s (h .0), same-on s (h .1))
 
-  -- a request that is told to wait has fewer waits left
-  pub fewer : (m n : M) (q : Request) → Served v m q Wait n → v .waits n q < v .waits m q
-  fewer m n (Read a) h = h .1
-  fewer m n (Write a w l) h = h .1
+  -- the rule of a reply that is the same for a read and a write
+  pub waited : (m n : M) (q : Request) → within (v .size m) (place q) ≡ true → v .waits n q < v .waits m q → Same v m n → Served v m q Wait n
+  waited m n (Read a) e less s = (e, less, s)
+  waited m n (Write a w l) e less s = (e, less, s)
 
-  -- what is told to wait alters nothing
-  pub unmoved : (m n : M) (q : Request) → Served v m q Wait n → Same v m n
-  unmoved m n (Read a) h = h .2
-  unmoved m n (Write a w l) h = h .2
+  pub outside : (m n : M) (q : Request) → within (v .size m) (place q) ≡ false → Same v m n → Served v m q Outside n
+  outside m n (Read a) e s = (e, s)
+  outside m n (Write a w l) e s = (e, s)
+
+-- a layer that has size 0 unless it is good holds an address only if it is good, and the memory below holds it
+pub layer-within : (good : Bool) (size a : ℕ) → within (cond good size 0) a ≡ true → (good ≡ true) × (within size a ≡ true)
+layer-within true size a e = (refl, e)
+layer-within false size a e = let none : a < 0 = ltb-true a 0 (and-parts (eqb (a % 4) 0) (ltb a 0) e .1) in absurd (omega arith)

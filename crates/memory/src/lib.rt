@@ -1,15 +1,19 @@
 //! Memories: what any memory is, and the three that a machine is built from, a flat one and two layers that stand over any other.
 ghost use mathlib.Core.Path.{_≡_};
 ghost use Prim.Native.Nat.{_≤_};
+ghost use Rattle.base.specs.Bytes.{within};
 ghost use Rattle.base.specs.declared.bus.Request.the-variants.{Read, Write};
-ghost use Rattle.memory.specs.Meaning.{Meaning, Lawful, Settled, peeked, of-read, of-write};
+ghost use Rattle.memory.specs.Meaning.{Meaning, Lawful, Settled, peeked, place, of-read, of-write};
 
 mod flat;
+mod wait_states;
 
 use base::bus::Lanes;
 use base::bus::Request;
 pub use flat::Flat;
 pub use flat::FlatMemory;
+pub use wait_states::WaitStates;
+pub use wait_states::WaitStatesMemory;
 
 /// What a memory replies to a request.
 #[derive(Clone, Copy, PartialEq, Eq, Debug)]
@@ -108,4 +112,21 @@ pub fn insist<M: Memory>(memory: &mut M, request: Request) -> Repeated
         }
     }
     unreachable()
+}
+
+/// The address that a request names.
+fn address_of(request: Request) -> u32
+    ensures { λ r. ⌜ r ≡ place request ⌝ }
+{
+    match request {
+        Request::Read { address } => address,
+        Request::Write { address, .. } => address,
+    }
+}
+
+/// Whether a word stands at an address, in a memory of that size.
+fn is_within(size: u32, address: u32) -> bool
+    ensures { λ r. ⌜ r ≡ within size address ⌝ }
+{
+    address % 4 == 0 && address < size
 }

@@ -1,0 +1,181 @@
+//! Wait states: a layer that says Wait a set number of times before it passes a request down.
+ghost use mathlib.Core.Path.{_≡_};
+ghost use mathlib.Core.Bool.{true, false};
+ghost use Rattle.base.specs.Bytes.{within};
+ghost use Rattle.base.specs.Refusals.{Says};
+ghost use Rattle.memory.specs.declared.wait_states.Counting.the-variants.{Nothing};
+ghost use Rattle.memory.specs.WaitStates.{wait-fits, wait-view, wait-means, same-request, Passes, WaitServes};
+use crate::Answer;
+use crate::Memory;
+use crate::Reply;
+use crate::address_of;
+use crate::ask;
+use crate::is_within;
+use base::bus::Lanes;
+use base::bus::Request;
+use base::bus::RequestDebug;
+use base::bus::RequestEq;
+use base::bus::RequestPartialEq;
+use base::refusal::Refusal;
+
+/// Which request is being told Wait, and how often the layer itself has told it so.
+#[derive(Clone, Copy, PartialEq, Eq, Debug)]
+pub enum Counting {
+    Nothing,
+    Waiting { request: Request, told: u32 },
+}
+
+/// The wait states of the memory below it.
+#[derive(Drop)]
+pub struct WaitStates<M: Memory> {
+    below: M,
+    states: u32,
+    counting: Counting,
+}
+
+impl<M: Memory> WaitStates<M> {
+    /// Refuses more than 15 wait states, and a longest wait, with that of the memory below, above 4095.
+    pub fn check(below: &M, states: u32) -> Result<(), Refusal>
+        ensures { λ r. ⌜ Says (λ _. wait-fits states (M·Memory .means .view .longest (now (below .entry))) ≡ true) (λ why. (why ≡ 2) × (wait-fits states (M·Memory .means .view .longest (now (below .entry))) ≡ false)) r ⌝ }
+    {
+        if states <= 15 && below.longest() <= 4095 - states {
+            Ok(())
+        } else {
+            Err(Refusal::LongWait)
+        }
+    }
+
+    /// A layer over a memory; of size 0 if it does not pass the check.
+    pub fn new(below: M, states: u32) -> WaitStates<M>
+        ensures below { λ r. ⌜ r .below ≡ below ⌝ }
+        ensures states { λ r. ⌜ r .states ≡ states ⌝ }
+        ensures counting { λ r. ⌜ r .counting ≡ Nothing ⌝ }
+    {
+        WaitStates {
+            below,
+            states,
+            counting: Counting::Nothing,
+        }
+    }
+
+    /// Whether the layer passes its check.
+    fn fits(&self) -> bool
+        ensures { λ r. ⌜ r ≡ wait-fits (now (self .entry) .states) (M·Memory .means .view .longest (now (self .entry) .below)) ⌝ }
+    {
+        self.states <= 15 && self.below.longest() <= 4095 - self.states
+    }
+
+    /// Serves a request, of either kind.
+    fn serve(&mut self, request: Request) -> Reply
+        ensures { λ r. ⌜ WaitServes (M·Memory .means) (now (self .entry)) request r (now (self .exit)) ⌝ }
+    {
+        if !is_within(self.size(), address_of(request)) {
+            self.counting = Counting::Nothing;
+            return Reply::Outside;
+        }
+        let states = self.states;
+        match (&mut self.counting, request) {
+            // the same request again, in its wait states
+            (
+                Counting::Waiting {
+                    request: counted,
+                    told,
+                },
+                request,
+            ) if same(*counted, request) && *told < states => {
+                *told += 1;
+                self.below.idle();
+                Reply::Wait
+            }
+            // the same request, with its wait states over
+            (
+                Counting::Waiting {
+                    request: counted,
+                    ..
+                },
+                request,
+            ) if same(*counted, request) => { self.pass(request) }
+            // a request that is not being counted: its first wait state
+            (counting, request) if 0 < states => {
+                *counting = Counting::Waiting { request, told: 1 };
+                self.below.idle();
+                Reply::Wait
+            }
+            // there are no wait states
+            (_, request) => self.pass(request),
+        }
+    }
+
+    /// Passes a request down, after its wait states.
+    fn pass(&mut self, request: Request) -> Reply
+        ensures { λ r. ⌜ Passes (M·Memory .means) (now (self .entry)) request r (now (self .exit)) ⌝ }
+    {
+        let reply = ask(&mut self.below, request);
+        self.counting = match reply {
+            Reply::Wait => Counting::Waiting {
+                request,
+                told: self.states,
+            },
+            _ => Counting::Nothing,
+        };
+        reply
+    }
+}
+
+/// Whether two requests are one, asked again.
+fn same(counted: Request, request: Request) -> bool
+    ensures { λ r. ⌜ r ≡ same-request counted request ⌝ }
+{
+    counted == request
+}
+
+pub impl<M: Memory> Memory for WaitStates<M> as WaitStatesMemory {
+    ghost means = { wait-means (M·Memory .means) };
+
+    fn read(&mut self, address: u32) -> Answer<u32> {
+        match self.serve(Request::Read { address }) {
+            Reply::Word(word) => Answer::Ready(word),
+            Reply::Wait => Answer::Wait,
+            Reply::Outside => Answer::Outside,
+            Reply::Done => unreachable(),
+        }
+    }
+
+    fn write(&mut self, address: u32, word: u32, lanes: Lanes) -> Answer<()> {
+        match self.serve(Request::Write {
+            address,
+            word,
+            lanes,
+        }) {
+            Reply::Done => Answer::Ready(()),
+            Reply::Wait => Answer::Wait,
+            Reply::Outside => Answer::Outside,
+            Reply::Word(_) => unreachable(),
+        }
+    }
+
+    fn idle(&mut self) {
+        self.counting = Counting::Nothing;
+        self.below.idle();
+    }
+
+    fn peek(&self, address: u32) -> Option<u8> {
+        if self.fits() {
+            self.below.peek(address)
+        } else {
+            None
+        }
+    }
+
+    fn longest(&self) -> u32 {
+        if self.fits() {
+            self.states + self.below.longest()
+        } else {
+            0
+        }
+    }
+
+    fn size(&self) -> u32 {
+        if self.fits() { self.below.size() } else { 0 }
+    }
+}

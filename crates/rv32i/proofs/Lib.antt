@@ -1,4 +1,5 @@
 pub mod CaseTable
+pub mod Laws
 pub mod Masks
 pub mod Numbered
 pub mod Ors

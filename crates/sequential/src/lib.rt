@@ -1,0 +1,3 @@
+//! The sequential machine: one instruction after another, each done before the next is fetched. It is what the pipeline is held to.
+pub mod machine;
+pub mod record;

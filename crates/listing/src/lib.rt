@@ -1,0 +1,3 @@
+//! What the programs print of records, stops and words, as text whose bytes are known.
+pub mod hex;
+pub mod records;

@@ -52,6 +52,15 @@ impl<'a, R: Copy> Log<'a, R> {
         }
     }
 
+    /// The records, in order.
+    pub fn records(&self) -> &[R]
+        ensures { λ r. ⌜ now r ≡ records (now (self .entry)) ⌝ }
+    {
+        let slots: &[R] = self.slots;
+        let n = self.filled.min(slots.len());
+        &slots[0..n]
+    }
+
     /// How many slots are filled.
     pub fn len(&self) -> usize
         ensures { λ r. ⌜ r ≡ length (records (now (self .entry))) ⌝ }

@@ -1,3 +1,4 @@
 //! What the programs print of records, stops and words, as text whose bytes are known.
 pub mod hex;
+pub mod image;
 pub mod records;

@@ -1,3 +1,4 @@
 pub mod Hex
 pub mod Images
+pub mod Sequences
 pub mod Texts

@@ -2,3 +2,4 @@
 pub mod hex;
 pub mod image;
 pub mod records;
+pub mod sequence;

@@ -36,6 +36,14 @@ pub struct Stop {
 }
 
 impl Retired {
+    /// A slot of a log that holds no record yet.
+    pub const EMPTY: Retired = Retired {
+        address: 0,
+        word: 0,
+        rd: None,
+        value: 0,
+    };
+
     /// The record of an instruction that writes `value` to `rd`, if it writes.
     pub fn new(address: u32, word: u32, rd: Option<Register>, value: u32) -> Retired
         ensures { λ r. ⌜ r ≡ retired address word rd value ⌝ }

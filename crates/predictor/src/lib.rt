@@ -12,6 +12,8 @@ pub mod counters;
 pub mod fixed;
 pub mod gshare;
 pub mod history;
+#[cfg(test)]
+mod tests;
 pub mod tournament;
 
 /// What guesses whether conditional branches are taken, and learns from what became of them.

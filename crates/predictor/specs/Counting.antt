@@ -23,13 +23,13 @@ high value = leb 2 value
 abbrev pub fresh : List ℕ
 fresh = replicate 256 1
 
--- the one of that number
-abbrev pub counter : List ℕ → ℕ → ℕ
-counter values number = getD values number 0
+-- the value of the one of that number
+abbrev pub value-at : List ℕ → ℕ → ℕ
+value-at values number = getD values number 0
 
 -- all of them, once the one of that number has gone up or down
 abbrev pub counted : List ℕ → ℕ → Bool → List ℕ
-counted values number up = set values number (stepped (counter values number) up)
+counted values number up = set values number (stepped (value-at values number) up)
 
 -- which one the branch at that address has
 abbrev pub number-of : ℕ → ℕ

@@ -4,7 +4,7 @@ use mathlib.Core.List.{List, [], _∷_}
 use Prim.Native.Nat.{ℕ}
 use lib.Dec.{leb}
 use Rattle.base.specs.declared.branch.Outcome.{Outcome}
-use Rattle.predictor.specs.Counting.{counter, counted, high, number-of, number-under, shifted}
+use Rattle.predictor.specs.Counting.{value-at, counted, high, number-of, number-under, shifted}
 
 -- the guess for every branch, by address and target, after every list of outcomes still to come
 abbrev pub Table : Type 0
@@ -20,12 +20,12 @@ backward later address target = leb target address
 
 -- Bimodal, by its counters
 abbrev pub bimodal : List ℕ → Table
-bimodal counters [] address target = high (counter counters (number-of address))
+bimodal counters [] address target = high (value-at counters (number-of address))
 bimodal counters (o ∷ later) address target = bimodal (counted counters (number-of (o .address)) (o .taken)) later address target
 
 -- Gshare, by its counters and its history
 abbrev pub gshare : List ℕ → ℕ → Table
-gshare counters history [] address target = high (counter counters (number-under history address))
+gshare counters history [] address target = high (value-at counters (number-under history address))
 gshare counters history (o ∷ later) address target =
     gshare (counted counters (number-under history (o .address)) (o .taken)) (shifted history (o .taken)) later address target
 
@@ -37,7 +37,7 @@ judged choosers first second o = cond (Bool·beq first second) choosers (counted
 -- Tournament, by its choosing counters and the tables of the two
 abbrev pub tournament : List ℕ → Table → Table → Table
 tournament choosers first second [] address target =
-    cond (high (counter choosers (number-of address))) (second [] address target) (first [] address target)
+    cond (high (value-at choosers (number-of address))) (second [] address target) (first [] address target)
 tournament choosers first second (o ∷ later) address target =
     tournament (judged choosers (first [] (o .address) (o .target)) (second [] (o .address) (o .target)) o)
     (λ more. first (o ∷ more)) (λ more. second (o ∷ more)) later address target

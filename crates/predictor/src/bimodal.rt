@@ -1,7 +1,6 @@
 //! A counter for each branch.
 ghost use mathlib.Core.Path.{_≡_};
-ghost use Rattle.predictor.specs.Contents.{values};
-ghost use Rattle.predictor.specs.Counting.{fresh, counter as read, number-of};
+ghost use Rattle.predictor.specs.Counting.{fresh, value-at, number-of};
 ghost use Rattle.predictor.specs.Tables.{bimodal};
 use crate::Predictor;
 use crate::counter::Counter;
@@ -17,7 +16,7 @@ pub struct Bimodal {
 impl Bimodal {
     /// All counters are 1 at first.
     pub fn new() -> Bimodal
-        ensures { λ r. ⌜ values (r .counters) ≡ fresh ⌝ }
+        ensures { λ r. ⌜ r .counters .values ≡ fresh ⌝ }
     {
         Bimodal {
             counters: Counters::new(),
@@ -26,14 +25,14 @@ impl Bimodal {
 
     /// The counter that the branch at `address` has.
     pub fn counter(&self, address: u32) -> Counter
-        ensures { λ r. ⌜ r .value ≡ read (values (now (self .entry) .counters)) (number-of address) ⌝ }
+        ensures { λ r. ⌜ r .value ≡ value-at (now (self .entry) .counters .values) (number-of address) ⌝ }
     {
         self.counters.get(Counters::number_of(address))
     }
 }
 
 pub impl Predictor for Bimodal as BimodalPredictor {
-    ghost table = { λ b. bimodal (values (b .counters)) };
+    ghost table = { λ b. bimodal (b .counters .values) };
 
     fn guess(&self, address: u32, _target: u32) -> bool {
         self.counter(address).is_high()

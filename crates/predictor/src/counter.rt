@@ -6,24 +6,12 @@ ghost use Rattle.predictor.specs.Counting.{stepped, high};
 /// A number from 0 to 3 that counts up and down, and stays where it is at the end of the range.
 #[derive(Clone, Copy)]
 pub struct Counter {
-    value: u8,
+    /// From 0 to 3.
+    pub value: u8,
     ghost range: { value ≤ 3 },
 }
 
 impl Counter {
-    /// It is 1 at first, so that one step up brings it into the upper half.
-    pub fn new() -> Counter
-        ensures { λ r. ⌜ r .value ≡ 1 ⌝ }
-    {
-        Counter { value: 1 }
-    }
-
-    pub fn value(self) -> u8
-        ensures { λ r. ⌜ r ≡ self .value ⌝ }
-    {
-        self.value
-    }
-
     /// Whether it stands in the upper half, at 2 or 3.
     pub fn is_high(self) -> bool
         ensures { λ r. ⌜ r ≡ high (self .value) ⌝ }

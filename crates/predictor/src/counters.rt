@@ -1,23 +1,23 @@
 //! A table of saturating counters.
 ghost use mathlib.Core.Path.{_≡_};
-ghost use Rattle.predictor.specs.Contents.{values};
-ghost use Rattle.predictor.specs.Counting.{fresh, counter as read, counted, number-of};
+ghost use Prim.Native.Nat.{ℕ, _≤_};
+ghost use lib.ListN.{getD};
+ghost use Rattle.predictor.specs.Counting.{fresh, value-at, counted, number-of};
 use crate::counter::Counter;
 
 /// 256 counters, numbered from 0.
 #[derive(Drop)]
 pub struct Counters {
-    all: [Counter; 256],
+    values: [u8; 256],
+    ghost range: { (k : ℕ) → getD values k 0 ≤ 3 },
 }
 
 impl Counters {
     /// All of them are 1 at first.
     pub fn new() -> Counters
-        ensures { λ r. ⌜ values r ≡ fresh ⌝ }
+        ensures { λ r. ⌜ r .values ≡ fresh ⌝ }
     {
-        Counters {
-            all: [Counter::new(); 256],
-        }
+        Counters { values: [1; 256] }
     }
 
     /// Which one the branch at `address` has: the number of its word, modulo 256.
@@ -29,15 +29,17 @@ impl Counters {
 
     /// The counter of that number.
     pub fn get(&self, number: u8) -> Counter
-        ensures { λ r. ⌜ r .value ≡ read (values (now (self .entry))) number ⌝ }
+        ensures { λ r. ⌜ r .value ≡ value-at (now (self .entry) .values) number ⌝ }
     {
-        self.all[number as usize]
+        Counter {
+            value: self.values[number as usize],
+        }
     }
 
     /// The counter of that number goes one step up or down; the others stay.
     pub fn count(&mut self, number: u8, up: bool)
-        ensures { λ _. ⌜ values (now (self .exit)) ≡ counted (values (now (self .entry))) number up ⌝ }
+        ensures { λ _. ⌜ now (self .exit) .values ≡ counted (now (self .entry) .values) number up ⌝ }
     {
-        self.all[number as usize] = self.get(number).stepped(up);
+        self.values[number as usize] = self.get(number).stepped(up).value;
     }
 }

@@ -5,7 +5,7 @@ ghost use Rattle.predictor.specs.Counting.{shifted};
 /// The latest eight outcomes, as the digits of a binary number: 1 for taken, the newest lowest.
 #[derive(Clone, Copy)]
 pub struct History {
-    bits: u8,
+    pub bits: u8,
 }
 
 impl History {
@@ -16,16 +16,10 @@ impl History {
         History { bits: 0 }
     }
 
-    pub fn bits(self) -> u8
-        ensures { λ r. ⌜ r ≡ self .bits ⌝ }
-    {
-        self.bits
-    }
-
     /// One outcome more; the oldest is forgotten.
     pub fn push(&mut self, taken: bool)
         ensures { λ _. ⌜ now (self .exit) .bits ≡ shifted (now (self .entry) .bits) taken ⌝ }
     {
-        self.bits = (self.bits << 1) | u8::from(taken);
+        self.bits = (self.bits << 1) + u8::from(taken);
     }
 }

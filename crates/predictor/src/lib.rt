@@ -1,17 +1,18 @@
 //! Branch predictors: what any predictor is, and five of them.
 ghost use mathlib.Core.Bool.{Bool};
-ghost use mathlib.Core.List.{List, [], _∷_, _++_};
+ghost use mathlib.Core.List.{List, [], _∷_};
 ghost use mathlib.Core.Path.{_≡_};
 ghost use Prim.Native.Nat.{ℕ};
 ghost use Rattle.base.specs.declared.branch.Outcome.{Outcome};
 use base::branch::Outcome;
 
+pub mod backward;
 pub mod bimodal;
 pub mod counter;
 pub mod counters;
-pub mod fixed;
 pub mod gshare;
 pub mod history;
+pub mod never;
 #[cfg(test)]
 mod tests;
 pub mod tournament;
@@ -28,13 +29,4 @@ pub trait Predictor {
     /// What became of a branch: the table moves on by it.
     fn update(&mut self, outcome: Outcome)
         ensures { λ _. ⌜ table (now (self .exit)) ≡ (λ later. table (now (self .entry)) (outcome ∷ later)) ⌝ };
-}
-
-/// A predictor learns outcomes one after another: its table moves on by all of them.
-pub fn train<P: Predictor>(predictor: &mut P, outcomes: &[Outcome])
-    ensures { λ _. ⌜ P·Predictor .table (now (predictor .exit)) ≡ (λ later. P·Predictor .table (now (predictor .entry)) (now (outcomes .entry) ++ later)) ⌝ }
-{
-    for outcome in outcomes {
-        predictor.update(*outcome);
-    }
 }

@@ -1,16 +1,15 @@
 //! Short histories of branches, worked out by hand.
 use crate::Predictor;
+use crate::backward::Backward;
+use crate::backward::BackwardPredictor;
 use crate::bimodal::Bimodal;
 use crate::bimodal::BimodalPredictor;
-use crate::fixed::Backward;
-use crate::fixed::BackwardPredictor;
-use crate::fixed::Never;
-use crate::fixed::NeverPredictor;
 use crate::gshare::Gshare;
 use crate::gshare::GsharePredictor;
+use crate::never::Never;
+use crate::never::NeverPredictor;
 use crate::tournament::Tournament;
 use crate::tournament::TournamentPredictor;
-use crate::train;
 use base::branch::Outcome;
 use std::test::*;
 
@@ -53,11 +52,11 @@ fn bimodal_stays_within_the_range() -> Result<(), Fail> {
     let mut bimodal = Bimodal::new();
     for value in [2, 3, 3] {
         bimodal.update(back(0x20, T));
-        check_eq(bimodal.counter(0x20).value(), value)?;
+        check_eq(bimodal.counter(0x20).value, value)?;
     }
     for value in [2, 1, 0, 0] {
         bimodal.update(back(0x20, N));
-        check_eq(bimodal.counter(0x20).value(), value)?;
+        check_eq(bimodal.counter(0x20).value, value)?;
     }
     Ok(())
 }
@@ -66,9 +65,10 @@ fn bimodal_stays_within_the_range() -> Result<(), Fail> {
 #[test]
 fn two_branches_share_a_counter() -> Result<(), Fail> {
     let mut bimodal = Bimodal::new();
-    train(&mut bimodal, &[back(0x20, T), back(0x420, T)]);
-    check_eq(bimodal.counter(0x20).value(), 3)?;
-    check_eq(bimodal.counter(0x24).value(), 1)?;
+    bimodal.update(back(0x20, T));
+    bimodal.update(back(0x420, T));
+    check_eq(bimodal.counter(0x20).value, 3)?;
+    check_eq(bimodal.counter(0x24).value, 1)?;
     check_eq(bimodal.guess(0x420, 0x10), T)?;
     check_eq(bimodal.guess(0x24, 0x10), N)
 }
@@ -83,11 +83,11 @@ fn gshare_learns_when_a_loop_ends() -> Result<(), Fail> {
     guesses(&mut gshare, &[(N, T), (N, T), (N, N)])?;
     guesses(&mut gshare, &[(N, T), (N, T), (N, N)])?;
     guesses(&mut gshare, &[(N, T), (N, T), (N, N)])?;
-    check_eq(gshare.history().bits(), 0b1011_0110)?;
+    check_eq(gshare.history(), 0b1011_0110)?;
     guesses(&mut gshare, &[(N, T), (T, T), (N, N)])?;
-    check_eq(gshare.counter(0x20).value(), 2)?;
+    check_eq(gshare.counter(0x20).value, 2)?;
     guesses(&mut gshare, &[(T, T), (T, T), (N, N)])?;
-    check_eq(gshare.counter(0x20).value(), 3)
+    check_eq(gshare.counter(0x20).value, 3)
 }
 
 /// T N T N, by bimodal and backward. Bimodal's counter is 1 2 1 2, so it guesses N T N T and is wrong each time;
@@ -97,10 +97,10 @@ fn gshare_learns_when_a_loop_ends() -> Result<(), Fail> {
 fn tournament_goes_over_to_the_second() -> Result<(), Fail> {
     let mut tournament = Tournament::new(Bimodal::new(), Backward);
     guesses(&mut tournament, &[(N, T)])?;
-    check_eq(tournament.chooser(0x20).value(), 2)?;
+    check_eq(tournament.chooser(0x20).value, 2)?;
     guesses(&mut tournament, &[(T, N), (T, T), (T, N)])?;
-    check_eq(tournament.chooser(0x20).value(), 3)?;
-    check_eq(tournament.chooser(0x24).value(), 1)
+    check_eq(tournament.chooser(0x20).value, 3)?;
+    check_eq(tournament.chooser(0x24).value, 1)
 }
 
 /// N T T T, by never and a tournament of backward and bimodal. Bimodal's counter is 1 0 1 2, so it guesses N N N T.
@@ -110,6 +110,6 @@ fn tournament_goes_over_to_the_second() -> Result<(), Fail> {
 fn tournaments_stand_in_tournaments() -> Result<(), Fail> {
     let mut tournament = Tournament::new(Never, Tournament::new(Backward, Bimodal::new()));
     guesses(&mut tournament, &[(N, N), (N, T), (N, T), (N, T)])?;
-    check_eq(tournament.chooser(0x20).value(), 2)?;
+    check_eq(tournament.chooser(0x20).value, 2)?;
     guesses(&mut tournament, &[(T, T)])
 }

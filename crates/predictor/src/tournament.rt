@@ -1,8 +1,7 @@
 //! Two predictors, and counters that choose between them.
 ghost use mathlib.Core.List.{[]};
 ghost use mathlib.Core.Path.{_≡_};
-ghost use Rattle.predictor.specs.Contents.{values};
-ghost use Rattle.predictor.specs.Counting.{fresh, counter as read, number-of};
+ghost use Rattle.predictor.specs.Counting.{fresh, value-at, number-of};
 ghost use Rattle.predictor.specs.Tables.{judged, tournament};
 use crate::Predictor;
 use crate::counter::Counter;
@@ -20,7 +19,7 @@ pub struct Tournament<A, B> {
 impl<A, B> Tournament<A, B> {
     /// All choosing counters are 1 at first.
     pub fn new(first: A, second: B) -> Tournament<A, B>
-        ensures choosers { λ r. ⌜ values (r .choosers) ≡ fresh ⌝ }
+        ensures choosers { λ r. ⌜ r .choosers .values ≡ fresh ⌝ }
         ensures first { λ r. ⌜ r .first ≡ first ⌝ }
         ensures second { λ r. ⌜ r .second ≡ second ⌝ }
     {
@@ -33,7 +32,7 @@ impl<A, B> Tournament<A, B> {
 
     /// The choosing counter that the branch at `address` has.
     pub fn chooser(&self, address: u32) -> Counter
-        ensures { λ r. ⌜ r .value ≡ read (values (now (self .entry) .choosers)) (number-of address) ⌝ }
+        ensures { λ r. ⌜ r .value ≡ value-at (now (self .entry) .choosers .values) (number-of address) ⌝ }
     {
         self.choosers.get(Counters::number_of(address))
     }
@@ -42,7 +41,7 @@ impl<A, B> Tournament<A, B> {
 impl<A: Predictor, B: Predictor> Tournament<A, B> {
     /// Where the two guesses for a branch differ, its choosing counter goes up if the second was right, else down.
     fn judge(&mut self, outcome: Outcome)
-        ensures choosers { λ _. ⌜ values (now (self .exit) .choosers) ≡ judged (values (now (self .entry) .choosers)) (A·Predictor .table (now (self .entry) .first) [] (outcome .address) (outcome .target)) (B·Predictor .table (now (self .entry) .second) [] (outcome .address) (outcome .target)) outcome ⌝ }
+        ensures choosers { λ _. ⌜ now (self .exit) .choosers .values ≡ judged (now (self .entry) .choosers .values) (A·Predictor .table (now (self .entry) .first) [] (outcome .address) (outcome .target)) (B·Predictor .table (now (self .entry) .second) [] (outcome .address) (outcome .target)) outcome ⌝ }
         ensures first { λ _. ⌜ now (self .exit) .first ≡ now (self .entry) .first ⌝ }
         ensures second { λ _. ⌜ now (self .exit) .second ≡ now (self .entry) .second ⌝ }
     {
@@ -56,7 +55,7 @@ impl<A: Predictor, B: Predictor> Tournament<A, B> {
 }
 
 pub impl<A: Predictor, B: Predictor> Predictor for Tournament<A, B> as TournamentPredictor {
-    ghost table = { λ t. tournament (values (t .choosers)) (A·Predictor .table (t .first)) (B·Predictor .table (t .second)) };
+    ghost table = { λ t. tournament (t .choosers .values) (A·Predictor .table (t .first)) (B·Predictor .table (t .second)) };
 
     fn guess(&self, address: u32, target: u32) -> bool {
         if self.chooser(address).is_high() {

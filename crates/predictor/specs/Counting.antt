@@ -8,7 +8,7 @@ use lib.ListN.{getD, set, replicate}
 
 -- ---- one counter
 
--- one up or one down, within 0 to 3
+-- one up or one down, within 0 to 3 (a difference of numbers stops at 0)
 abbrev pub stepped : ℕ → Bool → ℕ
 stepped value true = min (value + 1) 3
 stepped value false = value - 1

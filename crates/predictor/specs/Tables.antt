@@ -10,20 +10,20 @@ use Rattle.predictor.specs.Counting.{value-at, counted, high, number-of, numbe
 abbrev pub Table : Type 0
 Table = List Outcome → ℕ → ℕ → Bool
 
--- Never
+-- Never: not taken
 abbrev pub never : Table
 never later address target = false
 
--- Backward
+-- Backward: taken, if the target is at most the address
 abbrev pub backward : Table
 backward later address target = leb target address
 
--- Bimodal, by its counters
+-- Bimodal, by the values of its counters
 abbrev pub bimodal : List ℕ → Table
 bimodal counters [] address target = high (value-at counters (number-of address))
 bimodal counters (o ∷ later) address target = bimodal (counted counters (number-of (o .address)) (o .taken)) later address target
 
--- Gshare, by its counters and its history
+-- Gshare, by the values of its counters and its history
 abbrev pub gshare : List ℕ → ℕ → Table
 gshare counters history [] address target = high (value-at counters (number-under history address))
 gshare counters history (o ∷ later) address target =
@@ -34,7 +34,7 @@ gshare counters history (o ∷ later) address target =
 abbrev pub judged : List ℕ → Bool → Bool → Outcome → List ℕ
 judged choosers first second o = cond (Bool·beq first second) choosers (counted choosers (number-of (o .address)) (Bool·beq second (o .taken)))
 
--- Tournament, by its choosing counters and the tables of the two
+-- Tournament, by the values of its choosing counters and the tables of the two
 abbrev pub tournament : List ℕ → Table → Table → Table
 tournament choosers first second [] address target =
     cond (high (value-at choosers (number-of address))) (second [] address target) (first [] address target)

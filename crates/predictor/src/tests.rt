@@ -90,15 +90,19 @@ fn gshare_learns_when_a_loop_ends() -> Result<(), Fail> {
     check_eq(gshare.counter(0x20).value, 3)
 }
 
-/// T N T N, by bimodal and backward. Bimodal's counter is 1 2 1 2, so it guesses N T N T and is wrong each time;
-/// backward guesses T. They differ at each T, where the choosing counter goes up, and agree at each N, where it stays.
-/// So it is 1 2 2 3 3: the first guess is bimodal's, and all others are backward's.
+/// The same loop, by bimodal and gshare. Bimodal's counter is 1 2 3, then 2 3 3 for ever: its first guess is N, and all
+/// others are T. Gshare guesses N ten times, and then T T N rightly. Where they differ, the choosing counter goes down at
+/// a T and up at an N: it is 1 1 0, 1 0 0, 1 0 0, 1 0 0, 1 1 1, and then 2. So the sixth loop is the first whose end is
+/// guessed by gshare.
 #[test]
 fn tournament_goes_over_to_the_second() -> Result<(), Fail> {
-    let mut tournament = Tournament::new(Bimodal::new(), Backward);
-    guesses(&mut tournament, &[(N, T)])?;
+    let mut tournament = Tournament::new(Bimodal::new(), Gshare::new());
+    guesses(&mut tournament, &[(N, T), (T, T), (T, N)])?;
+    for _ in 0..4 {
+        guesses(&mut tournament, &[(T, T), (T, T), (T, N)])?;
+    }
     check_eq(tournament.chooser(0x20).value, 2)?;
-    guesses(&mut tournament, &[(T, N), (T, T), (T, N)])?;
+    guesses(&mut tournament, &[(T, T), (T, T), (N, N)])?;
     check_eq(tournament.chooser(0x20).value, 3)?;
     check_eq(tournament.chooser(0x24).value, 1)
 }

@@ -61,6 +61,14 @@ fn bimodal_stays_within_the_range() -> Result<(), Fail> {
     Ok(())
 }
 
+/// A loop of three rounds, T T N, twice: the counter is 1 2 3, and then 2 3 3.
+#[test]
+fn bimodal_is_wrong_at_the_end_of_a_loop() -> Result<(), Fail> {
+    let mut bimodal = Bimodal::new();
+    guesses(&mut bimodal, &[(N, T), (T, T), (T, N)])?;
+    guesses(&mut bimodal, &[(T, T), (T, T), (T, N)])
+}
+
 /// 0x20 and 0x420 lie 256 words apart, so that both have counter 8; 0x24 has counter 9.
 #[test]
 fn two_branches_share_a_counter() -> Result<(), Fail> {
@@ -73,10 +81,10 @@ fn two_branches_share_a_counter() -> Result<(), Fail> {
     check_eq(bimodal.guess(0x24, 0x10), N)
 }
 
-/// A loop of three rounds, T T N, over and over. Until the history is full each outcome meets a counter of its own,
-/// which is 1: the branch is word 8, and the histories 0, 1, 11, 110, .. in binary give the counters 8, 9, 11, 14, 5, 19,
-/// 62, 101, 211, 190. From then on the histories 01101101, 11011011 and 10110110 take turns, with the counters 101, 211
-/// and 190. Each of these has seen one kind of outcome only, so that every guess is right.
+/// The loop T T N, over and over. Until the history is full each outcome meets a counter of its own, which is 1: the
+/// branch is word 8, and the histories 0, 1, 11, 110, .. in binary give the counters 8, 9, 11, 14, 5, 19, 62, 101, 211,
+/// 190. From then on the histories 01101101, 11011011 and 10110110 take turns, with the counters 101, 211 and 190. Each
+/// of these has seen one kind of outcome only, so that every guess is right.
 #[test]
 fn gshare_learns_when_a_loop_ends() -> Result<(), Fail> {
     let mut gshare = Gshare::new();
@@ -90,10 +98,10 @@ fn gshare_learns_when_a_loop_ends() -> Result<(), Fail> {
     check_eq(gshare.counter(0x20).value, 3)
 }
 
-/// The same loop, by bimodal and gshare. Bimodal's counter is 1 2 3, then 2 3 3 for ever: its first guess is N, and all
-/// others are T. Gshare guesses N ten times, and then T T N rightly. Where they differ, the choosing counter goes down at
-/// a T and up at an N: it is 1 1 0, 1 0 0, 1 0 0, 1 0 0, 1 1 1, and then 2. So the sixth loop is the first whose end is
-/// guessed by gshare.
+/// The loop T T N, by bimodal and gshare. Bimodal's counter is 1 2 3, then 2 3 3 for ever: its first guess is N, and all
+/// others are T. Gshare guesses N ten times, and is right from then on. Where they differ, the choosing counter goes down
+/// at a T and up at an N: it is 1 1 0, 1 0 0, 1 0 0, 1 0 0, 1 1 1, and then 2. So the sixth loop is the first whose end
+/// is guessed by gshare.
 #[test]
 fn tournament_goes_over_to_the_second() -> Result<(), Fail> {
     let mut tournament = Tournament::new(Bimodal::new(), Gshare::new());

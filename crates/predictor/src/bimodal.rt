@@ -39,7 +39,7 @@ pub impl Predictor for Bimodal as BimodalPredictor {
     }
 
     fn update(&mut self, outcome: Outcome) {
-        self.counters
-            .count(Counters::number_of(outcome.address), outcome.taken);
+        let number = Counters::number_of(outcome.address);
+        self.counters.count(number, outcome.taken);
     }
 }

@@ -1,4 +1,4 @@
-//! Branch predictors: what any predictor is, and five of them.
+//! Branch predictors: what any predictor is, and five of them. `docs/predictors.md` works a loop out for each.
 ghost use mathlib.Core.Bool.{Bool};
 ghost use mathlib.Core.List.{List, [], _∷_};
 ghost use mathlib.Core.Path.{_≡_};

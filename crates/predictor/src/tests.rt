@@ -13,9 +13,10 @@ use crate::tournament::TournamentPredictor;
 use base::branch::Outcome;
 use std::test::*;
 
-// Taken, and not taken.
+/// Taken.
 const T: bool = true;
 
+/// Not taken.
 const N: bool = false;
 
 /// What became of the branch at `address`, back to 0x10.

@@ -5,4 +5,5 @@ pub mod Immediates
 pub mod Operations
 pub mod Registers
 pub mod Search
+pub mod Targets
 pub mod Words

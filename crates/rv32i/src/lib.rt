@@ -7,3 +7,4 @@ pub mod fields;
 pub mod instruction;
 pub mod register;
 pub mod registers;
+pub mod target;

@@ -1,0 +1,4 @@
+pub mod Clock
+pub mod Counting
+pub mod Ports
+pub mod Stages

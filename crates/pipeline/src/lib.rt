@@ -1,0 +1,3 @@
+//! The pipeline: a machine that is loaded with a predictor and two memories, and the calls on it.
+pub mod machine;
+pub mod token;

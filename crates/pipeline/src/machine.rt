@@ -1,0 +1,35 @@
+//! The machine.
+use crate::token::HoldToken;
+use base::refusal::Refusal;
+use clocking::core::Core;
+use memory::Memory;
+use predictor::Predictor;
+use sequential::record::Retired;
+
+/// A retired record, and the clock in which it retired.
+#[derive(Clone, Copy)]
+pub struct RetiredAt {
+    pub clock: u32,
+    pub retired: Retired,
+}
+
+/// How many clocks a run made, and the refusal that the next would get if it made fewer than asked.
+#[derive(Clone, Copy)]
+pub struct Run {
+    pub made: u32,
+    pub why: Option<Refusal>,
+}
+
+/// A token that is not taken is handed back.
+pub struct Rejected {
+    pub why: Refusal,
+    pub token: HoldToken,
+}
+
+/// A pipeline that is loaded.
+#[derive(Drop)]
+pub struct Machine<P: Predictor, I: Memory, D: Memory> {
+    serial: u16,
+    held: bool,
+    core: Core<P, I, D>,
+}

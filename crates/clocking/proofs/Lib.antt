@@ -4,5 +4,7 @@ pub mod Decode
 pub mod Execute
 pub mod Fetch
 pub mod Forward
+pub mod Keeps
+pub mod Link
 pub mod Partial
 pub mod Served

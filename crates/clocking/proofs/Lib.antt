@@ -1,4 +1,5 @@
 pub mod Chain
+pub mod Countdown
 pub mod Data
 pub mod Decode
 pub mod Execute

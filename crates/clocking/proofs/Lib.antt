@@ -1,3 +1,4 @@
+pub mod Balance
 pub mod Chain
 pub mod Countdown
 pub mod Data
@@ -6,6 +7,7 @@ pub mod Execute
 pub mod Fetch
 pub mod Forward
 pub mod Keeps
+pub mod Pace
 pub mod Link
 pub mod Partial
 pub mod Served

@@ -1,3 +1,4 @@
+pub mod Agreement
 pub mod Clock
 pub mod Counting
 pub mod Ports

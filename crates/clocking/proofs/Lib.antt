@@ -1,3 +1,4 @@
+pub mod Agrees
 pub mod Balance
 pub mod Chain
 pub mod Countdown
@@ -6,6 +7,7 @@ pub mod Decode
 pub mod Execute
 pub mod Fetch
 pub mod Forward
+pub mod Histories
 pub mod Keeps
 pub mod Pace
 pub mod Link

@@ -55,6 +55,12 @@ bytes-at s (Ok t) = t .bytes
 abbrev pub guessed : ℕ → State → Reach
 guessed g s = cond (eqb (s .address) g) (Ok s) (Err FetchOutside)
 
+-- W does not stop the machine
+abbrev pub Flows : Latch Completed → Type 0
+Flows Empty = Unit {0}
+Flows (Faulting a c) = ⊥
+Flows (Full c) = Unit {0}
+
 module _ (world : World) where
   abbrev pub HoldsD : Reach → Latch Fetched → Type 0
   HoldsD = Holds (λ s x. fetched-at world s (x .guess)) (λ s. fetched-at world s 0)

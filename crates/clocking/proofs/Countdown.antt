@@ -43,6 +43,7 @@ use Rattle.clocking.specs.declared.stage.FetchOut.{FetchOut}
 use Rattle.clocking.specs.declared.stage.Fetching.{Fetching}
 use Rattle.clocking.specs.declared.stage.Fetching.the-variants.{Idle, Fault, Ask}
 use Rattle.clocking.proofs.Link.{waits-for, Worn}
+use Rattle.clocking.proofs.Chain.{Flows}
 use Rattle.clocking.proofs.Served.{Bytes}
 
 -- the waits left for fetching at f, none where it cannot be read
@@ -105,6 +106,12 @@ fills-by f i Hazard b h k = absurd h
 fills : (h : Register → Operand) → ((r : Register) → Ready (h r)) → (f : Fetched) (o : Result Instruction Cause) → Filled (decode-word h f o .x)
 fills h k f (Err c) = tt
 fills h k f (Ok i) = fills-by f i (source h (first-source i)) (source h (second-source i)) (ready-source h k (first-source i)) (ready-source h k (second-source i))
+
+-- what a clock does to the countdown, by W: it falls, or is bounded anew
+abbrev pub Down : ℕ → Latch Completed → ℕ → ℕ → Type 0
+Down bound Empty before after = after < before
+Down bound (Faulting a c) before after = ⊥
+Down bound (Full c) before after = after ≤ bound
 
 -- ---- fetching
 
@@ -210,7 +217,7 @@ module _ (size text most least : ℕ) (p p′ t t′ : Request → ℕ) (small :
     Text-asked k = Bytes text (fetch-request (k .f) (plans size text g k reply)) answer u v × Worn answer (fetch-request (k .f) (plans size text g k reply)) t t′
 
     -- a clock in which nothing retires
-    pub falls : (f : ℕ) (d : Latch Fetched) (x : Latch Decoded) (m : Latch Executed) → Worn reply (sent (data-request size m)) p p′ → Text-asked (record { f = f; d = d; x = x; m = m; w = Empty })
+    falls : (f : ℕ) (d : Latch Fetched) (x : Latch Decoded) (m : Latch Executed) → Worn reply (sent (data-request size m)) p p′ → Text-asked (record { f = f; d = d; x = x; m = m; w = Empty })
         → ends-at (record { f = f; d = d; x = x; m = m; w = Empty }) < count size text most p t Empty m x d f
     falls f d x (Full e) h w = by-m e x _ _ _ (request size (e .access) (e .result) (e .b)) reply h
     falls f d x (Faulting b c) h w = omega arith
@@ -221,7 +228,7 @@ module _ (size text most least : ℕ) (p p′ t t′ : Request → ℕ) (small :
     falls f Empty Empty Empty h w = falls-by table q f u v _ (arrived table q f u v answer (w .0) (w .1))
 
     -- a clock in which one retires
-    pub bounds : (f : ℕ) (d : Latch Fetched) (x : Latch Decoded) (m : Latch Executed) (c : Completed) → Worn reply (sent (data-request size m)) p p′
+    bounds : (f : ℕ) (d : Latch Fetched) (x : Latch Decoded) (m : Latch Executed) (c : Completed) → Worn reply (sent (data-request size m)) p p′
         → Text-asked (record { f = f; d = d; x = x; m = m; w = Full c }) → Lulled text least t (Full c) m x d f → ((r : Request) → p r ≤ most)
         → ends-at (record { f = f; d = d; x = x; m = m; w = Full c }) ≤ 3 + most + least
     bounds f d x (Full e) c h w l s =
@@ -243,6 +250,13 @@ module _ (size text most least : ℕ) (p p′ t t′ : Request → ℕ) (small :
         omega arith
     bounds f (Faulting b z) Empty Empty c h w l s = omega arith
     bounds f Empty Empty Empty c h w l s = bounds-by table q f u v _ (arrived table q f u v answer (w .0) (w .1)) l
+
+    pub down : (f : ℕ) (d : Latch Fetched) (x : Latch Decoded) (m : Latch Executed) (w : Latch Completed) → Flows w → Worn reply (sent (data-request size m)) p p′
+        → Text-asked (record { f = f; d = d; x = x; m = m; w = w }) → Lulled text least t w m x d f → ((r : Request) → p r ≤ most)
+        → Down (least + most + 3) w (count size text most p t w m x d f) (ends-at (record { f = f; d = d; x = x; m = m; w = w }))
+    down f d x m Empty k h w l s = falls f d x m h w
+    down f d x m (Faulting a c) k h w l s = absurd k
+    down f d x m (Full c) k h w l s = let z = bounds f d x m c h w l s in omega arith
 
     -- ---- what a clock leaves of a lull, by what the data stage gave
 

@@ -31,7 +31,7 @@ use Rattle.rv32i.specs.declared.registers.Registers.{Registers}
 use Rattle.clocking.specs.Clock.{written-back, completes, executes, reads, decodes, plans, fetches, latches-after}
 use Rattle.clocking.specs.Stages.{data-request, sent, x-result, gives, from-x, from-m, from-w, or-else, value-of, in-flight, fetch-request}
 use Rattle.clocking.specs.declared.latch.Latches.{Latches}
-use Rattle.clocking.proofs.Chain.{Reach, HoldsW, HoldsM, HoldsX, HoldsD, behindW, behindM, behindX, behindD, Leads, bytes-at, Chain}
+use Rattle.clocking.proofs.Chain.{Flows, Reach, HoldsW, HoldsM, HoldsX, HoldsD, behindW, behindM, behindX, behindD, Leads, bytes-at, Chain}
 use Rattle.clocking.proofs.Data.{Back, left, DataKept, data-kept}
 use Rattle.clocking.proofs.Decode.{SourcedRead, DecodeKept, decode-kept}
 use Rattle.clocking.proofs.Execute.{Sourced, ExecuteKept, execute-kept}
@@ -61,12 +61,6 @@ sourced-read : (flow : Flow) (f : Register → Operand) (r : Reach) → Sourced 
 sourced-read Moves f r k = known-read f r k
 sourced-read Stays f r k = tt
 sourced-read RollsBack f r k = tt
-
--- W does not stop the machine
-abbrev pub Flows : Latch Completed → Type 0
-Flows Empty = Unit {0}
-Flows (Faulting a c) = ⊥
-Flows (Full c) = Unit {0}
 
 module _ (world : World) where
   -- what the sequential machine does where W retires

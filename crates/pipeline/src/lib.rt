@@ -1,4 +1,7 @@
 //! The pipeline: a machine that is loaded with a predictor and two memories, and the calls on it.
+mod counting;
 pub mod machine;
+mod ports;
 mod stages;
+mod telling;
 pub mod token;

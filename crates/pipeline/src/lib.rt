@@ -1,5 +1,6 @@
 //! The pipeline: a machine that is loaded with a predictor and two memories, and the calls on it.
 mod counting;
+mod cycle;
 pub mod machine;
 mod ports;
 mod stages;

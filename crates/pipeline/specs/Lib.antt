@@ -1,2 +1,4 @@
 pub mod Calls
+pub mod Logged
+pub mod Readings
 pub mod Tokens

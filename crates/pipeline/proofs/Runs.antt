@@ -27,9 +27,9 @@ clocks-after (e ∷ es) fs = ap (λ l. e .clock ∷ l) (clocks-after es fs)
 pub logged-after : (l : Logs) (es fs : List Event) → logged (logged l es) fs ≡ logged l (es ++ fs)
 logged-after l es fs =
     let r : (l .retired ++ retired-entries es) ++ retired-entries fs ≡ l .retired ++ retired-entries (es ++ fs) =
-        append-assoc (l .retired) (retired-entries es) (retired-entries fs) ∙ ap (λ x. l .retired ++ x) (sym (retired-after es fs)) in
+    append-assoc (l .retired) (retired-entries es) (retired-entries fs) ∙ ap (λ x. l .retired ++ x) (sym (retired-after es fs)) in
     let c : (l .clocks ++ clock-entries es) ++ clock-entries fs ≡ l .clocks ++ clock-entries (es ++ fs) =
-        append-assoc (l .clocks) (clock-entries es) (clock-entries fs) ∙ ap (λ x. l .clocks ++ x) (sym (clocks-after es fs)) in
+    append-assoc (l .clocks) (clock-entries es) (clock-entries fs) ∙ ap (λ x. l .clocks ++ x) (sym (clocks-after es fs)) in
     cc
 
 pub logged-none : (l : Logs) → logged l [] ≡ l

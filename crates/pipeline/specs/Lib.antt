@@ -1,4 +1,5 @@
 pub mod Calls
 pub mod Logged
+pub mod Pauses
 pub mod Readings
 pub mod Tokens

@@ -2,6 +2,7 @@
 mod counting;
 mod cycle;
 pub mod machine;
+pub mod pause;
 mod ports;
 mod stages;
 mod telling;

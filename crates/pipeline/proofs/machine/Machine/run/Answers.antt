@@ -12,8 +12,7 @@ loop-made-holds g c = (no-clocks, (λ _. c .in-rest .ensures tt), (refl, refl), 
 pub loop-made-again : need.loop-made-again
 loop-made-again g c =
     let inv = c .loop-made .inv in
-    let made = c .clock .ensures in
-    (
+    let made = c .clock .ensures in (
       one-more (inv .0) (c .in-rest-clock .ensures tt .does),
       (λ z. absurd (omega arith)),
       (made .rooms .0 ∙ inv .2 .0, made .rooms .1 ∙ inv .2 .1),

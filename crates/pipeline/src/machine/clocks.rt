@@ -86,10 +86,10 @@ impl<P: Predictor, I: Memory, D: Memory> Machine<P, I, D> {
         ensures rooms { λ _. ⌜ (room (now (retirements .exit)) ≡ room (now (retirements .entry))) × (room (now (clocks .exit)) ≡ room (now (clocks .entry))) ⌝ }
         ensures lent { λ _. ⌜ (name (now (retirements .exit) .slots) ≡ name (now (retirements .entry) .slots)) × (name (now (clocks .exit) .slots) ≡ name (now (clocks .entry) .slots)) ⌝ }
     {
-        if let Some(why) = self.blocked(retirements, clocks) {
+        if let Some(first) = self.blocked(retirements, clocks) {
             return Run {
                 made: 0,
-                why: Some(why),
+                why: Some(first),
             };
         }
         let mut made = 0;

@@ -51,7 +51,7 @@ impl<P: Predictor, I: Memory, D: Memory> Machine<P, I, D> {
     pub fn fetch_address(&self) -> u32
         ensures { λ r. ⌜ r ≡ now (self .entry) .core .latches .f ⌝ }
     {
-        self.core.latches.f
+        self.latches().f
     }
 
     /// The address to fetch, and the latches before decode, execute, data and write-back.
@@ -72,14 +72,14 @@ impl<P: Predictor, I: Memory, D: Memory> Machine<P, I, D> {
     pub fn counts(&self) -> Totals
         ensures { λ r. ⌜ r ≡ totals (now (self .entry)) ⌝ }
     {
-        let counts = self.core.counts;
+        let core = &self.core;
         Totals {
-            clocks: counts.clocks,
-            fetched: counts.fetched,
-            retired: counts.retired,
-            dropped: counts.dropped,
-            in_flight: in_flight(&self.core.latches),
-            stopped: self.core.stopped.is_some() as u32,
+            clocks: core.counts.clocks,
+            fetched: core.counts.fetched,
+            retired: core.counts.retired,
+            dropped: core.counts.dropped,
+            in_flight: in_flight(&core.latches),
+            stopped: core.stopped.is_some() as u32,
         }
     }
 }

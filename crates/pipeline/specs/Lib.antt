@@ -3,3 +3,4 @@ pub mod Logged
 pub mod Pauses
 pub mod Readings
 pub mod Tokens
+pub mod Theorem

@@ -3,6 +3,7 @@ ghost use mathlib.Core.Path.{_≡_};
 ghost use mathlib.Core.Bool.{true, false};
 ghost use Rattle.base.specs.Refusals.{Says};
 ghost use Rattle.pipeline.specs.Calls.{Loaded, load-fits, start-fits};
+ghost use Rattle.pipeline.specs.Theorem.{Agrees};
 use crate::machine::Machine;
 use base::refusal::Refusal;
 use clocking::core::Core;
@@ -42,6 +43,7 @@ pub fn load<P: Predictor, I: Memory, D: Memory>(
     data: D,
 ) -> Machine<P, I, D>
     ensures starts { λ m. ⌜ Loaded (I·Memory .means .view .size instructions) serial start predictor instructions «data» m ⌝ }
+    ensures agrees { λ m. ⌜ Agrees (P·Predictor .table) (I·Memory .means) (D·Memory .means) m ⌝ }
 {
     let f = if start_fits(instructions.size(), start) {
         start

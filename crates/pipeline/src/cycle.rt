@@ -80,31 +80,39 @@ fn advance<P: Predictor, I: Memory, D: Memory>(core: &mut Core<P, I, D>) -> Even
     requires { ⌜ now core .stopped ≡ None ⌝ ∗ ⌜ now core .counts .clocks < 4294967295 ⌝ }
     ensures { λ e. ⌜ Moved (P·Predictor .table) (I·Memory .means) (D·Memory .means) (now (core .entry)) e (now (core .exit)) ⌝ }
 {
-    let latches = core.latches;
-    let retirement = retirement_of(&latches.w);
+    let retirement = retirement_of(&core.latches.w);
     teach(&mut core.predictor, outcome_of(&retirement));
-    write_back(&mut core.registers, &latches.w);
+    write_back(&mut core.registers, &core.latches.w);
 
-    let asked = data_request(core.data.size(), &latches.m);
+    let asked = data_request(core.data.size(), &core.latches.m);
     let reply = ask_or_idle(&mut core.data, sent(asked));
-    let completes = data_stage(&latches.m, asked, reply);
+    let completes = data_stage(&core.latches.m, asked, reply);
 
-    let executes = execute_stage(&latches.m, &latches.x, completes.flow);
+    let executes = execute_stage(&core.latches.m, &core.latches.x, completes.flow);
 
-    let decodes = decode(&core.registers, &latches, &completes, &executes);
+    let decodes = decode(&core.registers, &core.latches, &completes, &executes);
 
-    let plan = fetching(core.instructions.size(), latches.f, decodes.flow);
-    let answer = ask_or_idle(&mut core.instructions, fetch_request(latches.f, plan));
-    let arrival = arrival(&core.predictor, latches.f, answer);
+    let f = core.latches.f;
+    let plan = fetching(core.instructions.size(), f, decodes.flow);
+    let answer = ask_or_idle(&mut core.instructions, fetch_request(f, plan));
+    let arrival = arrival(&core.predictor, f, answer);
     let fetches = fetch_stage(
-        latches.f,
-        &latches.d,
+        f,
+        &core.latches.d,
         decodes.flow,
         plan,
         arrival,
         executes.redirect,
     );
 
+    count(
+        &mut core.counts,
+        has_fetched(plan, &arrival),
+        retirement.is_some(),
+        dropped(&core.latches, completes.flow, executes.flow),
+    );
+    let notes = notes(completes.flow, executes.flow, decodes.flow, answer);
+    let clock = clock_record(core.counts.clocks, &core.latches, notes);
     core.latches = Latches {
         f: fetches.f,
         d: fetches.d,
@@ -112,17 +120,7 @@ fn advance<P: Predictor, I: Memory, D: Memory>(core: &mut Core<P, I, D>) -> Even
         m: executes.m,
         w: completes.w,
     };
-    count(
-        &mut core.counts,
-        has_fetched(plan, &arrival),
-        retirement.is_some(),
-        dropped(&latches, completes.flow, executes.flow),
-    );
-    let notes = notes(completes.flow, executes.flow, decodes.flow, answer);
-    Event {
-        clock: clock_record(core.counts.clocks, &latches, notes),
-        retirement,
-    }
+    Event { clock, retirement }
 }
 
 /// What a clock does to the core, and what it tells.

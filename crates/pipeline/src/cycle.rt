@@ -3,32 +3,11 @@ ghost use mathlib.Core.Path.{_≡_};
 ghost use Prim.Native.Nat.{_<_};
 ghost use Rattle.std.specs.declared.option.Option.the-variants.{None};
 ghost use Rattle.clocking.specs.Clock.{Cycled, Moved, Halted};
+ghost use Rattle.clocking.specs.Counting.{Counted};
 ghost use Rattle.clocking.specs.Stages.{decode-stage, in-flight, x-result};
-use crate::counting::count;
-use crate::counting::dropped;
-use crate::counting::has_fetched;
-use crate::ports::arrival;
-use crate::ports::ask_or_idle;
-use crate::ports::teach;
-use crate::stages::data::data_request;
-use crate::stages::data::data_stage;
-use crate::stages::data::sent;
-use crate::stages::decode::InFlight;
-use crate::stages::decode::decode_stage;
-use crate::stages::execute::execute_stage;
-use crate::stages::execute::x_result;
-use crate::stages::fetch::fetch_request;
-use crate::stages::fetch::fetch_stage;
-use crate::stages::fetch::fetching;
-use crate::stages::write_back::outcome_of;
-use crate::stages::write_back::retirement_of;
-use crate::stages::write_back::stop_of;
-use crate::stages::write_back::write_back;
-use crate::telling::STOP;
-use crate::telling::clock_record;
-use crate::telling::notes;
 use clocking::core::Core;
 use clocking::core::Event;
+use clocking::counts::Counts;
 use clocking::latch::Latch;
 use clocking::latch::Latches;
 use clocking::stage::DataOut;
@@ -38,6 +17,41 @@ use memory::Memory;
 use predictor::Predictor;
 use rv32i::registers::Registers;
 use sequential::record::Stop;
+use stages::counting::dropped;
+use stages::counting::has_fetched;
+use stages::data::data_request;
+use stages::data::data_stage;
+use stages::data::sent;
+use stages::decode::InFlight;
+use stages::decode::decode_stage;
+use stages::execute::execute_stage;
+use stages::execute::x_result;
+use stages::fetch::fetch_request;
+use stages::fetch::fetch_stage;
+use stages::fetch::fetching;
+use stages::ports::arrival;
+use stages::ports::ask_or_idle;
+use stages::ports::teach;
+use stages::telling::STOP;
+use stages::telling::clock_record;
+use stages::telling::notes;
+use stages::write_back::outcome_of;
+use stages::write_back::retirement_of;
+use stages::write_back::stop_of;
+use stages::write_back::write_back;
+
+/// Counts a clock, and what was fetched, retired and removed in it.
+fn count(counts: &mut Counts, fetched: bool, retired: bool, gone: u32)
+    requires { ⌜ now counts .clocks < 4294967295 ⌝ }
+    ensures { λ _. ⌜ Counted (now (counts .entry)) fetched retired gone (now (counts .exit)) ⌝ }
+{
+    *counts = Counts {
+        clocks: counts.clocks + 1,
+        fetched: counts.fetched + fetched as u32,
+        retired: counts.retired + retired as u32,
+        dropped: counts.dropped.wrapping_add(gone),
+    };
+}
 
 /// The machine stops: W is emptied, and both memories idle.
 fn halt<P: Predictor, I: Memory, D: Memory>(core: &mut Core<P, I, D>, stop: Stop) -> Event

@@ -4,7 +4,6 @@ ghost use Prim.Native.Nat.{_<_, _≤_};
 ghost use lib.ListN.{getD};
 ghost use Rattle.base.specs.Refusals.{Says};
 ghost use Rattle.pipeline.specs.Readings.{totals};
-use crate::counting::in_flight;
 use crate::machine::Machine;
 use crate::machine::Totals;
 use base::refusal::Refusal;
@@ -13,6 +12,7 @@ use memory::Memory;
 use predictor::Predictor;
 use rv32i::register::Register;
 use sequential::record::Stop;
+use stages::counting::in_flight;
 
 impl<P: Predictor, I: Memory, D: Memory> Machine<P, I, D> {
     /// The serial that its tokens bear.

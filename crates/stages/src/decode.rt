@@ -38,12 +38,12 @@ fn arrived(answer: &Latch<Completed>) -> Operand
 /// What is in flight, to an instruction in D: X with this clock's result, M with this clock's answer, W, and the register file
 /// that W is written back to.
 #[derive(Clone, Copy)]
-pub(crate) struct InFlight<'a> {
-    pub(crate) x: &'a Latch<Executed>,
-    pub(crate) m: &'a Latch<Executed>,
-    pub(crate) answer: &'a Latch<Completed>,
-    pub(crate) w: &'a Latch<Completed>,
-    pub(crate) registers: &'a Registers,
+pub struct InFlight<'a> {
+    pub x: &'a Latch<Executed>,
+    pub m: &'a Latch<Executed>,
+    pub answer: &'a Latch<Completed>,
+    pub w: &'a Latch<Completed>,
+    pub registers: &'a Registers,
 }
 
 impl InFlight<'_> {
@@ -106,7 +106,7 @@ fn with_operands(f: Fetched, instruction: Instruction, a: Operand, b: Operand) -
 }
 
 /// D is dropped after a rollback and stays while X stays; else it goes to X, unless an operand is not there.
-pub(crate) fn decode_stage(
+pub fn decode_stage(
     in_flight: InFlight<'_>,
     x: &Latch<Decoded>,
     d: &Latch<Fetched>,

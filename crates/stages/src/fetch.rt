@@ -10,7 +10,7 @@ use clocking::stage::Flow;
 use rv32i::cause::Cause;
 
 /// What the stage does, by the size of the instruction memory and what became of D.
-pub(crate) fn fetching(size: u32, f: u32, flow: Flow) -> Fetching
+pub fn fetching(size: u32, f: u32, flow: Flow) -> Fetching
     ensures { λ r. ⌜ r ≡ fetching size f flow ⌝ }
 {
     match flow {
@@ -28,7 +28,7 @@ pub(crate) fn fetching(size: u32, f: u32, flow: Flow) -> Fetching
 }
 
 /// What the instruction memory is asked.
-pub(crate) fn fetch_request(f: u32, plan: Fetching) -> Option<Request>
+pub fn fetch_request(f: u32, plan: Fetching) -> Option<Request>
     ensures { λ r. ⌜ r ≡ fetch-request f plan ⌝ }
 {
     match plan {
@@ -39,7 +39,7 @@ pub(crate) fn fetch_request(f: u32, plan: Fetching) -> Option<Request>
 
 /// After a rollback D is empty, and F is where the redirect says; while D stays, so does F; else what arrived goes into D,
 /// and F on to its guess.
-pub(crate) fn fetch_stage(
+pub fn fetch_stage(
     f: u32,
     d: &Latch<Fetched>,
     flow: Flow,

@@ -10,7 +10,7 @@ use sequential::record::Retirement;
 use sequential::record::Stop;
 
 /// Where and why the machine stops, if W is faulting.
-pub(crate) fn stop_of(w: &Latch<Completed>) -> Option<Stop>
+pub fn stop_of(w: &Latch<Completed>) -> Option<Stop>
     ensures { λ r. ⌜ r ≡ stop-of (now (w .entry)) ⌝ }
 {
     match *w {
@@ -20,7 +20,7 @@ pub(crate) fn stop_of(w: &Latch<Completed>) -> Option<Stop>
 }
 
 /// What retires, if W is full and not faulting.
-pub(crate) fn retirement_of(w: &Latch<Completed>) -> Option<Retirement>
+pub fn retirement_of(w: &Latch<Completed>) -> Option<Retirement>
     ensures { λ r. ⌜ r ≡ retirement-of (now (w .entry)) ⌝ }
 {
     match *w {
@@ -33,7 +33,7 @@ pub(crate) fn retirement_of(w: &Latch<Completed>) -> Option<Retirement>
 }
 
 /// What became of the branch that retires, if it is one.
-pub(crate) fn outcome_of(retirement: &Option<Retirement>) -> Option<Outcome>
+pub fn outcome_of(retirement: &Option<Retirement>) -> Option<Outcome>
     ensures { λ r. ⌜ r ≡ outcome-of (now (retirement .entry)) ⌝ }
 {
     match *retirement {
@@ -43,7 +43,7 @@ pub(crate) fn outcome_of(retirement: &Option<Retirement>) -> Option<Outcome>
 }
 
 /// Writes what retires to the register file.
-pub(crate) fn write_back(registers: &mut Registers, w: &Latch<Completed>)
+pub fn write_back(registers: &mut Registers, w: &Latch<Completed>)
     ensures { λ _. ⌜ now (registers .exit) ≡ written-back (now (registers .entry)) (now (w .entry)) ⌝ }
 {
     if let Latch::Full(c) = *w {

@@ -1,8 +1,7 @@
 //! What a clock counts.
 ghost use mathlib.Core.Path.{_≡_};
-ghost use Prim.Native.Nat.{_<_, _≤_};
-ghost use Rattle.clocking.specs.Counting.{Counted, occupied, in-flight-count, has-fetched, if-rolled, dropped};
-use clocking::counts::Counts;
+ghost use Prim.Native.Nat.{_≤_};
+ghost use Rattle.clocking.specs.Counting.{occupied, in-flight-count, has-fetched, if-rolled, dropped};
 use clocking::latch::Fetched;
 use clocking::latch::Latch;
 use clocking::latch::Latches;
@@ -21,14 +20,14 @@ fn occupied<T: Copy>(latch: &Latch<T>) -> u32
 }
 
 /// How many stand in latches.
-pub(crate) fn in_flight(latches: &Latches) -> u32
+pub fn in_flight(latches: &Latches) -> u32
     ensures { λ r. ⌜ r ≡ in-flight-count (now (latches .entry)) ⌝ }
 {
     occupied(&latches.d) + occupied(&latches.x) + occupied(&latches.m) + occupied(&latches.w)
 }
 
 /// Whether an instruction is put into D.
-pub(crate) fn has_fetched(plan: Fetching, arrival: &Option<Fetched>) -> bool
+pub fn has_fetched(plan: Fetching, arrival: &Option<Fetched>) -> bool
     ensures { λ r. ⌜ r ≡ has-fetched plan (now (arrival .entry)) ⌝ }
 {
     match plan {
@@ -53,21 +52,8 @@ fn if_rolled(flow: Flow, n: u32) -> u32
 }
 
 /// How many are removed: a rollback from data removes X, and any rollback D.
-pub(crate) fn dropped(latches: &Latches, data: Flow, execute: Flow) -> u32
+pub fn dropped(latches: &Latches, data: Flow, execute: Flow) -> u32
     ensures { λ r. ⌜ r ≡ dropped (now (latches .entry)) «data» execute ⌝ }
 {
     if_rolled(data, occupied(&latches.x)) + if_rolled(execute, occupied(&latches.d))
-}
-
-/// Counts a clock, and what was fetched, retired and removed in it.
-pub(crate) fn count(counts: &mut Counts, fetched: bool, retired: bool, gone: u32)
-    requires { ⌜ now counts .clocks < 4294967295 ⌝ }
-    ensures { λ _. ⌜ Counted (now (counts .entry)) fetched retired gone (now (counts .exit)) ⌝ }
-{
-    *counts = Counts {
-        clocks: counts.clocks + 1,
-        fetched: counts.fetched + fetched as u32,
-        retired: counts.retired + retired as u32,
-        dropped: counts.dropped.wrapping_add(gone),
-    };
 }

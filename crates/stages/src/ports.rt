@@ -14,7 +14,7 @@ use rv32i::instruction::Instruction;
 use rv32i::target::Target;
 
 /// The one call of a clock: the request, or idle.
-pub(crate) fn ask_or_idle<M: Memory>(memory: &mut M, request: Option<Request>) -> Option<Reply>
+pub fn ask_or_idle<M: Memory>(memory: &mut M, request: Option<Request>) -> Option<Reply>
     ensures { λ r. ⌜ Asked (M·Memory .means) (now (memory .entry)) request r (now (memory .exit)) ⌝ }
 {
     match request {
@@ -27,7 +27,7 @@ pub(crate) fn ask_or_idle<M: Memory>(memory: &mut M, request: Option<Request>) -
 }
 
 /// A branch that retires teaches the predictor what became of it.
-pub(crate) fn teach<P: Predictor>(predictor: &mut P, outcome: Option<Outcome>)
+pub fn teach<P: Predictor>(predictor: &mut P, outcome: Option<Outcome>)
     ensures { λ _. ⌜ Taught (P·Predictor .table) (now (predictor .entry)) outcome (now (predictor .exit)) ⌝ }
 {
     if let Some(outcome) = outcome {
@@ -56,7 +56,7 @@ fn guess<P: Predictor>(predictor: &P, f: u32, issued: Result<Instruction, Cause>
 }
 
 /// What arrives from the instruction memory for D, if it answered with a word.
-pub(crate) fn arrival<P: Predictor>(predictor: &P, f: u32, answer: Option<Reply>) -> Option<Fetched>
+pub fn arrival<P: Predictor>(predictor: &P, f: u32, answer: Option<Reply>) -> Option<Fetched>
     ensures { λ r. ⌜ r ≡ arrival (P·Predictor .table) (now (predictor .entry)) f answer ⌝ }
 {
     match answer {

@@ -67,7 +67,7 @@ fn address_of<T: Located + Copy>(latch: &Latch<T>) -> Option<u32>
 }
 
 /// The record of the clock of that number, which began with those latches.
-pub(crate) fn clock_record(clock: u32, latches: &Latches, notes: Notes) -> ClockRecord
+pub fn clock_record(clock: u32, latches: &Latches, notes: Notes) -> ClockRecord
     ensures { λ r. ⌜ r ≡ clock-record clock (now (latches .entry)) notes ⌝ }
 {
     ClockRecord {
@@ -82,7 +82,7 @@ pub(crate) fn clock_record(clock: u32, latches: &Latches, notes: Notes) -> Clock
 }
 
 /// The notes of a clock that stops the machine.
-pub(crate) const STOP: Notes = Notes {
+pub const STOP: Notes = Notes {
     fetch_wait: false,
     hazard: false,
     data_wait: false,
@@ -92,7 +92,7 @@ pub(crate) const STOP: Notes = Notes {
 
 /// The notes of a clock that moves on, by what became of M, X and D and the instruction memory's answer. A hazard keeps D
 /// where X moved on.
-pub(crate) fn notes(data: Flow, execute: Flow, decode: Flow, answer: Option<Reply>) -> Notes
+pub fn notes(data: Flow, execute: Flow, decode: Flow, answer: Option<Reply>) -> Notes
     ensures { λ r. ⌜ r ≡ record { «fetch_wait» = is-wait answer; hazard = moves execute && stays decode; «data_wait» = stays «data»; rollback = rolls-back decode; stop = false } ⌝ }
 {
     Notes {

@@ -13,7 +13,7 @@ use rv32i::effect::loaded;
 use rv32i::effect::request;
 
 /// What M asks of a data memory of that size, or the cause that its address has.
-pub(crate) fn data_request(size: u32, m: &Latch<Executed>) -> Result<Option<Request>, Cause>
+pub fn data_request(size: u32, m: &Latch<Executed>) -> Result<Option<Request>, Cause>
     ensures { λ r. ⌜ r ≡ data-request size (now (m .entry)) ⌝ }
 {
     match *m {
@@ -23,7 +23,7 @@ pub(crate) fn data_request(size: u32, m: &Latch<Executed>) -> Result<Option<Requ
 }
 
 /// What the data memory is asked: a cause asks nothing.
-pub(crate) fn sent(asked: Result<Option<Request>, Cause>) -> Option<Request>
+pub fn sent(asked: Result<Option<Request>, Cause>) -> Option<Request>
     ensures { λ r. ⌜ r ≡ sent asked ⌝ }
 {
     match asked {
@@ -49,7 +49,7 @@ fn completes_with(e: Executed, value: u32) -> DataOut
 }
 
 /// A cause goes to W and rolls back; M waits while the memory does; all else goes to W.
-pub(crate) fn data_stage(
+pub fn data_stage(
     m: &Latch<Executed>,
     asked: Result<Option<Request>, Cause>,
     reply: Option<Reply>,

@@ -9,7 +9,7 @@ use clocking::stage::Flow;
 use rv32i::cause::Cause;
 
 /// What the instruction comes to, or why it may not.
-pub(crate) fn execute(d: Decoded) -> Result<Executed, Cause>
+pub fn execute(d: Decoded) -> Result<Executed, Cause>
     ensures { λ r. ⌜ r ≡ execute d ⌝ }
 {
     match d.instruction.execute(d.address, d.a, d.b) {
@@ -29,7 +29,7 @@ pub(crate) fn execute(d: Decoded) -> Result<Executed, Cause>
 
 /// X is dropped after a rollback and stays while M stays; else it goes to M, and rolls back what was fetched after it where
 /// its true next address is not the guessed one.
-pub(crate) fn execute_stage(m: &Latch<Executed>, x: &Latch<Decoded>, flow: Flow) -> ExecuteOut
+pub fn execute_stage(m: &Latch<Executed>, x: &Latch<Decoded>, flow: Flow) -> ExecuteOut
     ensures { λ r. ⌜ r ≡ execute-stage (now (m .entry)) (now (x .entry)) flow ⌝ }
 {
     match flow {
@@ -79,7 +79,7 @@ pub(crate) fn execute_stage(m: &Latch<Executed>, x: &Latch<Decoded>, flow: Flow)
 }
 
 /// X with this clock's result: what it put into M, if M moved.
-pub(crate) fn x_result(flow: Flow, m: Latch<Executed>) -> Latch<Executed>
+pub fn x_result(flow: Flow, m: Latch<Executed>) -> Latch<Executed>
     ensures { λ r. ⌜ r ≡ x-result flow m ⌝ }
 {
     match flow {

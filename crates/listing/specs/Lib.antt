@@ -1,4 +1,5 @@
 pub mod Hex
 pub mod Images
+pub mod Lines
 pub mod Sequences
 pub mod Texts

@@ -82,7 +82,6 @@ bytes-from world s bytes Empty h e = e
 bytes-from world s bytes (Faulting a c) h e = e
 bytes-from world s bytes (Full c) h e = bytes-by world s c bytes (after-at world s) h refl (rw h (pairs world s)) e
 
-
 -- W as what it stops with, or not at all
 flows-if : (w : Latch Completed) → stop-of w ≡ None → Flows w
 flows-if Empty e = tt

@@ -36,6 +36,17 @@ pub struct Notes {
     pub stop: bool,
 }
 
+impl Notes {
+    /// Nothing else happened.
+    pub const NONE: Notes = Notes {
+        fetch_wait: false,
+        hazard: false,
+        data_wait: false,
+        rollback: false,
+        stop: false,
+    };
+}
+
 /// A clock: its number, the address to fetch and the latches' addresses at its beginning, and what happened.
 #[derive(Clone, Copy, PartialEq, Eq, Debug)]
 pub struct ClockRecord {
@@ -46,6 +57,19 @@ pub struct ClockRecord {
     pub m: Option<u32>,
     pub w: Option<u32>,
     pub notes: Notes,
+}
+
+impl ClockRecord {
+    /// What a slot of a log holds before it is filled.
+    pub const EMPTY: ClockRecord = ClockRecord {
+        clock: 0,
+        f: 0,
+        d: None,
+        x: None,
+        m: None,
+        w: None,
+        notes: Notes::NONE,
+    };
 }
 
 /// A clock that was made: its record, and what retired in it.

@@ -21,6 +21,14 @@ pub struct RetiredAt {
     pub retired: Retired,
 }
 
+impl RetiredAt {
+    /// What a slot of a log holds before it is filled.
+    pub const EMPTY: RetiredAt = RetiredAt {
+        clock: 0,
+        retired: Retired::EMPTY,
+    };
+}
+
 /// How many clocks a run made, and the refusal that the next would get if it made fewer than asked.
 #[derive(Clone, Copy)]
 pub struct Run {

@@ -1,3 +1,4 @@
+pub mod PostedWrites
 pub mod Requests
 pub mod Rules
 pub mod WaitLaws

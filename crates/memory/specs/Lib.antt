@@ -1,3 +1,4 @@
 pub mod Meaning
 pub mod Flat
 pub mod WaitStates
+pub mod Held

@@ -6,6 +6,7 @@ ghost use Rattle.base.specs.declared.bus.Request.the-variants.{Read, Write};
 ghost use Rattle.memory.specs.Meaning.{Meaning, Lawful, Settled, peeked, place, of-read, of-write};
 
 mod flat;
+mod held;
 mod wait_states;
 
 use base::bus::Lanes;

@@ -2,3 +2,4 @@ pub mod Meaning
 pub mod Flat
 pub mod WaitStates
 pub mod Held
+pub mod WriteBuffer

@@ -8,6 +8,7 @@ ghost use Rattle.memory.specs.Meaning.{Meaning, Lawful, Settled, peeked, place
 mod flat;
 mod held;
 mod wait_states;
+mod write_buffer;
 
 use base::bus::Lanes;
 use base::bus::Request;
@@ -15,6 +16,8 @@ pub use flat::Flat;
 pub use flat::FlatMemory;
 pub use wait_states::WaitStates;
 pub use wait_states::WaitStatesMemory;
+pub use write_buffer::WriteBuffer;
+pub use write_buffer::WriteBufferMemory;
 
 /// What a memory replies to a request.
 #[derive(Clone, Copy, PartialEq, Eq, Debug)]

@@ -1,3 +1,4 @@
+pub mod BufferLaws
 pub mod PostedWrites
 pub mod Requests
 pub mod Rules

@@ -3,7 +3,7 @@ use mathlib.Core.Path.{_≡_, refl, sym, ap, _∙_}
 use mathlib.Core.Bool.{Bool, true, false, cond}
 use native.Mathlib.Omega.{arith}
 use Rattle.std.proofs.shelf.Tests.{ltb-true, and-parts}
-use Prim.Native.Nat.{ℕ, _%_, _<_}
+use Prim.Native.Nat.{ℕ, _%_, _<_, _≤_}
 use lib.Dec.{eqb, ltb}
 use Rattle.base.specs.Bytes.{within, word, put}
 use Rattle.base.specs.declared.bus.Lanes.{Lanes}
@@ -46,7 +46,29 @@ module _ {M : Type 0} (v : View M) where
   outside m n (Read a) e s = (e, s)
   outside m n (Write a w l) e s = (e, s)
 
--- a layer that has size 0 unless it is good holds an address only if it is good, and the memory below holds it
+  pub longest-kept : (m n : M) (q : Request) (r : Reply) → Served v m q r n → v .longest n ≡ v .longest m
+  longest-kept m n (Read a) (Word w) h = h .2 .longest
+  longest-kept m n (Read a) Done h = absurd h
+  longest-kept m n (Read a) Wait h = h .2 .longest
+  longest-kept m n (Read a) Outside h = h .1 .longest
+  longest-kept m n (Write a w l) (Word x) h = absurd h
+  longest-kept m n (Write a w l) Done h = h .1 .longest
+  longest-kept m n (Write a w l) Wait h = h .2 .longest
+  longest-kept m n (Write a w l) Outside h = h .1 .longest
+
+-- A layer is good, or it has size 0 and never waits.
+
 pub layer-within : (good : Bool) (size a : ℕ) → within (cond good size 0) a ≡ true → (good ≡ true) × (within size a ≡ true)
 layer-within true size a e = (refl, e)
 layer-within false size a e = let none : a < 0 = ltb-true a 0 (and-parts (eqb (a % 4) 0) (ltb a 0) e .1) in absurd (omega arith)
+
+pub layer-aligned : (good : Bool) (size : ℕ) → size % 16 ≡ 0 → cond good size 0 % 16 ≡ 0
+layer-aligned true size h = h
+layer-aligned false size h = refl
+
+pub layer-patient : (good : Bool) (waits longest : ℕ) → waits ≤ longest → cond good waits 0 ≤ cond good longest 0
+layer-patient true waits longest h = h
+layer-patient false waits longest h = omega arith
+
+pub layer-fewer : (good after : Bool) (waits left : ℕ) → good ≡ true → after ≡ good → left < waits → cond after left 0 < cond good waits 0
+layer-fewer good after waits left e k h = rw (k, e) h

@@ -17,8 +17,8 @@ use Rattle.memory.specs.declared.Reply.the-variants.{Word, Done, Wait, Outside
 use Rattle.memory.specs.declared.wait_states.Counting.the-variants.{Waiting}
 use Rattle.memory.specs.declared.wait_states.WaitStates.{WaitStates}
 use Rattle.memory.specs.Meaning.{View, Meaning, Lawful, Same, Changed, Served, place}
-use Rattle.memory.specs.WaitStates.{told, passed, fits, wait-view, wait-means, Misses, Counts, Passes, WaitServes, WaitIdles}
-use Rattle.memory.proofs.Rules.{layer-within, waited, outside, same-as}
+use Rattle.memory.specs.WaitStates.{told, passed, fits, wait-waits, wait-view, wait-means, Misses, Counts, Passes, WaitServes, WaitIdles}
+use Rattle.memory.proofs.Rules.{same-as, waited, outside, layer-within, layer-aligned, layer-patient, layer-fewer}
 use Rattle.memory.proofs.Requests.{request-self}
 
 module _ {M : Type 0} {m : Meaning M} (laws : Lawful m) where
@@ -32,52 +32,45 @@ module _ {M : Type 0} {m : Meaning M} (laws : Lawful m) where
   told-self x q n e = rw e (cond-true _ _ _ (request-self q))
 
   -- the waits left in the wait states, and past them
-  counting : (w : WaitStates M) (q : Request) → fits low w ≡ true → told (w .counting) q < w .states → top .waits w q ≡ w .states - told (w .counting) q + low .longest (w .below)
-  counting w q e h = cond-true _ _ _ e ∙ cond-true _ _ _ (lt-ltb _ _ h)
+  counting : (w : WaitStates M) (q : Request) → told (w .counting) q < w .states → wait-waits low w q ≡ w .states - told (w .counting) q + low .longest (w .below)
+  counting w q h = cond-true _ _ _ (lt-ltb _ _ h)
 
-  passing : (w : WaitStates M) (q : Request) → fits low w ≡ true → w .states ≤ told (w .counting) q → top .waits w q ≡ low .waits (w .below) q
-  passing w q e h = cond-true _ _ _ e ∙ cond-false _ _ _ (le-ltb _ _ h)
+  passing : (w : WaitStates M) (q : Request) → w .states ≤ told (w .counting) q → wait-waits low w q ≡ low .waits (w .below) q
+  passing w q h = cond-false _ _ _ (le-ltb _ _ h)
 
-  never : (w : WaitStates M) (q : Request) → fits low w ≡ false → top .waits w q ≡ 0
-  never w q e = cond-false _ _ _ e
-
-  bounded : (w : WaitStates M) (q : Request) → fits low w ≡ true → top .waits w q ≤ w .states + low .longest (w .below)
-  bounded w q e = elim (cases-lt (told (w .counting) q) (w .states)) [ inl h ↦ rw (counting w q e h) (omega arith) | inr h ↦ rw (passing w q e h) (omega (arith, laws .patient (w .below) q)) ]
-
-  patient : (w : WaitStates M) (q : Request) → top .waits w q ≤ top .longest w
-  patient w q = elim (cases-bool (fits low w)) [ inl e ↦ rw (cond-true _ (w .states + low .longest (w .below)) 0 e) (bounded w q e) | inr e ↦ rw (never w q e) (omega arith) ]
+  bounded : (w : WaitStates M) (q : Request) → wait-waits low w q ≤ w .states + low .longest (w .below)
+  bounded w q = elim (cases-lt (told (w .counting) q) (w .states)) [ inl h ↦ rw (counting w q h) (omega arith) | inr h ↦ rw (passing w q h) (omega (arith, laws .patient (w .below) q)) ]
 
   same : (w x : WaitStates M) → x .states ≡ w .states → Same low (w .below) (x .below) → Same top w x
   same w x s h = let z = h .size in let l = h .longest in record { size = cc; byte = h .byte; longest = cc }
 
-  changed : (w x : WaitStates M) (a y : ℕ) (l : Lanes) → x .states ≡ w .states → Changed low (w .below) a y l (x .below) → Changed top w a y l x
+  changed : (w x : WaitStates M) (a y : ℕ) (k : Lanes) → x .states ≡ w .states → Changed low (w .below) a y k (x .below) → Changed top w a y k x
   changed w x a y k s h = let z = h .size in let l = h .longest in record { size = cc; byte = h .byte; longest = cc }
 
-  fits-on : (w x : WaitStates M) → x .states ≡ w .states → low .longest (x .below) ≡ low .longest (w .below) → fits low w ≡ true → fits low x ≡ true
-  fits-on w x s l e = cc
+  fewer : (w x : WaitStates M) (q : Request) → within (top .size w) (place q) ≡ true → x .states ≡ w .states → low .longest (x .below) ≡ low .longest (w .below) → wait-waits low x q < wait-waits low w q → top .waits x q < top .waits w q
+  fewer w x q e s l h = layer-fewer (fits low w) (fits low x) _ _ (layer-within _ _ (place q) e .0) (cc) h
 
-  counts-less : (w x : WaitStates M) (q : Request) → fits low w ≡ true → told (w .counting) q < w .states → Counts m w q x → top .waits x q < top .waits w q
-  counts-less w x q e h k =
+  counts-fewer : (w x : WaitStates M) (q : Request) → told (w .counting) q < w .states → Counts m w q x → wait-waits low x q < wait-waits low w q
+  counts-fewer w x q h k =
       let l = laws .idle _ _ (k .below) .longest in
       let s = k .states in
-      let f = fits-on w x s l e in
       let t = told-self x q _ (k .counting) in
-      elim (cases-lt (told (x .counting) q) (x .states)) [ inl j ↦ rw (counting w q e h, counting x q f j) (omega arith) | inr j ↦ rw (counting w q e h, passing x q f j) (omega (arith, laws .patient (x .below) q)) ]
+      elim (cases-lt (told (x .counting) q) (x .states)) [ inl j ↦ rw (counting w q h, counting x q j) (omega arith) | inr j ↦ rw (counting w q h, passing x q j) (omega (arith, laws .patient (x .below) q)) ]
 
-  passes-less : (w x : WaitStates M) (q : Request) → fits low w ≡ true → w .states ≤ told (w .counting) q → x .states ≡ w .states → x .counting ≡ Waiting q (w .states) → low .longest (x .below) ≡ low .longest (w .below) → low .waits (x .below) q < low .waits (w .below) q → top .waits x q < top .waits w q
-  passes-less w x q e h s c l less =
+  passes-fewer : (w x : WaitStates M) (q : Request) → w .states ≤ told (w .counting) q → x .states ≡ w .states → x .counting ≡ Waiting q (w .states) → low .waits (x .below) q < low .waits (w .below) q → wait-waits low x q < wait-waits low w q
+  passes-fewer w x q h s c less =
       let t = told-self x q _ c in
       let j : x .states ≤ told (x .counting) q = omega arith in
-      rw (passing w q e h, passing x q (fits-on w x s l e) j) less
+      rw (passing w q h, passing x q j) less
 
   passes : (w x : WaitStates M) (q : Request) (r : Reply) → within (top .size w) (place q) ≡ true → w .states ≤ told (w .counting) q → Served low (w .below) q r (x .below) → x .states ≡ w .states → x .counting ≡ passed q (w .states) r → Served top w q r x
   passes w x (Read a) (Word y) e h b s c = (e, b .1, same w x s (b .2))
   passes w x (Read a) Done e h b s c = b
-  passes w x (Read a) Wait e h b s c = (e, passes-less w x (Read a) (layer-within _ _ a e .0) h s c (b .2 .longest) (b .1), same w x s (b .2))
+  passes w x (Read a) Wait e h b s c = (e, fewer w x (Read a) e s (b .2 .longest) (passes-fewer w x (Read a) h s c (b .1)), same w x s (b .2))
   passes w x (Read a) Outside e h b s c = absurd (both-ways _ (b .0) (layer-within _ _ a e .1))
   passes w x (Write a y l) (Word z) e h b s c = b
   passes w x (Write a y l) Done e h b s c = (e, changed w x a y l s (b .1))
-  passes w x (Write a y l) Wait e h b s c = (e, passes-less w x (Write a y l) (layer-within _ _ a e .0) h s c (b .2 .longest) (b .1), same w x s (b .2))
+  passes w x (Write a y l) Wait e h b s c = (e, fewer w x (Write a y l) e s (b .2 .longest) (passes-fewer w x (Write a y l) h s c (b .1)), same w x s (b .2))
   passes w x (Write a y l) Outside e h b s c = absurd (both-ways _ (b .0) (layer-within _ _ a e .1))
 
   serve : (w x : WaitStates M) (q : Request) (r : Reply) → WaitServes m w q r x → Served top w q r x
@@ -87,7 +80,9 @@ module _ {M : Type 0} {m : Meaning M} (laws : Lawful m) where
       misses e k = rw (k .0) (outside top w x q e (same w x (k .1 .states) (same-as low (k .1 .below))))
 
       counts : within (top .size w) (place q) ≡ true → told (w .counting) q < w .states → (r ≡ Wait) × Counts m w q x → Served top w q r x
-      counts e t k = rw (k .0) (waited top w x q e (counts-less w x q (layer-within _ _ (place q) e .0) t (k .1)) (same w x (k .1 .states) (laws .idle _ _ (k .1 .below))))
+      counts e t k =
+          let i = laws .idle _ _ (k .1 .below) in
+          rw (k .0) (waited top w x q e (fewer w x q e (k .1 .states) (i .longest) (counts-fewer w x q t (k .1))) (same w x (k .1 .states) i))
 
       inside : within (top .size w) (place q) ≡ true → When (ltb (told (w .counting) q) (w .states)) ((r ≡ Wait) × Counts m w q x) (Passes m w q r x) → Served top w q r x
       inside e k =
@@ -99,8 +94,11 @@ module _ {M : Type 0} {m : Meaning M} (laws : Lawful m) where
   idle : (w x : WaitStates M) → WaitIdles m w x → Same top w x
   idle w x h = same w x (h .states) (laws .idle _ _ (h .below))
 
-  aligned : (w : WaitStates M) → top .size w % 16 ≡ 0
-  aligned w = elim (cases-bool (fits low w)) [ inl e ↦ rw (cond-true _ _ _ e) (laws .aligned (w .below)) | inr e ↦ rw (cond-false _ _ _ e) ]
-
 pub wait-lawful : {M : Type 0} {m : Meaning M} → Lawful m → Lawful (wait-means m)
-wait-lawful laws = record { aligned = aligned laws; fits = λ w. laws .fits (w .below); patient = patient laws; serve = serve laws; idle = idle laws }
+wait-lawful laws = record {
+  aligned = λ w. layer-aligned _ _ (laws .aligned (w .below));
+  fits = λ w. laws .fits (w .below);
+  patient = λ w q. layer-patient _ _ _ (bounded laws w q);
+  serve = serve laws;
+  idle = idle laws;
+}

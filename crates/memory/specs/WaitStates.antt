@@ -50,12 +50,15 @@ module _ {M : Type 0} where
   abbrev pub fits : View M → WaitStates M → Bool
   fits v w = wait-fits (w .states) (v .longest (w .below))
 
-  -- In its wait states a request has those left, and then the longest wait below, which it may have in full; past them, what it has left below.
+  -- The waits left of a request: in its wait states those left, and then the longest wait below, since an idle memory below may have all its waits again; past them, what it has left below.
+  abbrev pub wait-waits : View M → WaitStates M → Request → ℕ
+  wait-waits v w q = cond (ltb (told (w .counting) q) (w .states)) (w .states - told (w .counting) q + v .longest (w .below)) (v .waits (w .below) q)
+
   abbrev pub wait-view : View M → View (WaitStates M)
   wait-view v = record {
     size = λ w. cond (fits v w) (v .size (w .below)) 0;
     byte = λ w. v .byte (w .below);
-    waits = λ w q. cond (fits v w) (cond (ltb (told (w .counting) q) (w .states)) (w .states - told (w .counting) q + v .longest (w .below)) (v .waits (w .below) q)) 0;
+    waits = λ w q. cond (fits v w) (wait-waits v w q) 0;
     longest = λ w. cond (fits v w) (w .states + v .longest (w .below)) 0;
   }
 

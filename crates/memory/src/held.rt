@@ -3,14 +3,11 @@ ghost use mathlib.Core.Path.{_≡_};
 ghost use Prim.Native.Nat.{_≤_};
 ghost use lib.ListN.{length};
 use base::bus::Lanes;
-use base::bus::LanesDebug;
-use base::bus::LanesEq;
-use base::bus::LanesPartialEq;
 
 mod queue;
 
 /// A write that was accepted and has yet to go below.
-#[derive(Clone, Copy, PartialEq, Eq, Debug)]
+#[derive(Clone, Copy)]
 pub struct PostedWrite {
     pub address: u32,
     pub word: u32,

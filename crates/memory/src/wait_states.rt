@@ -13,13 +13,11 @@ use crate::ask;
 use crate::is_within;
 use base::bus::Lanes;
 use base::bus::Request;
-use base::bus::RequestDebug;
-use base::bus::RequestEq;
 use base::bus::RequestPartialEq;
 use base::refusal::Refusal;
 
 /// Which request is being told Wait, and how often the layer itself has told it so.
-#[derive(Clone, Copy, PartialEq, Eq, Debug)]
+#[derive(Clone, Copy)]
 pub enum Counting {
     Nothing,
     Waiting { request: Request, told: u32 },
@@ -62,7 +60,7 @@ impl<M: Memory> WaitStates<M> {
     fn fits(&self) -> bool
         ensures { λ r. ⌜ r ≡ wait-fits (now (self .entry) .states) (M·Memory .means .view .longest (now (self .entry) .below)) ⌝ }
     {
-        self.states <= 15 && self.below.longest() <= 4095 - self.states
+        WaitStates::check(&self.below, self.states).is_ok()
     }
 
     /// Serves a request, of either kind.

@@ -16,11 +16,13 @@ use base::bus::Request;
 use base::bus::RequestPartialEq;
 use base::refusal::Refusal;
 
-/// Which request is being told Wait, and how often the layer itself has told it so.
+/// What a layer counts.
 #[derive(Clone, Copy)]
 pub enum Counting {
+    /// Nothing: the next request is at its first wait state.
     Nothing,
-    Waiting { request: Request, told: u32 },
+    /// This request, which the layer itself has told Wait so often.
+    Waiting(Request, u32),
 }
 
 /// The wait states of the memory below it.
@@ -74,28 +76,19 @@ impl<M: Memory> WaitStates<M> {
         let states = self.states;
         match (&mut self.counting, request) {
             // the same request again, in its wait states
-            (
-                Counting::Waiting {
-                    request: counted,
-                    told,
-                },
-                request,
-            ) if same(*counted, request) && *told < states => {
+            (Counting::Waiting(counted, told), request)
+                if same(*counted, request) && *told < states => {
                 *told += 1;
                 self.below.idle();
                 Reply::Wait
             }
             // the same request, with its wait states over
-            (
-                Counting::Waiting {
-                    request: counted,
-                    ..
-                },
+            (Counting::Waiting(counted, _), request) if same(*counted, request) => self.pass(
                 request,
-            ) if same(*counted, request) => { self.pass(request) }
-            // a request that is not being counted: its first wait state
+            ),
+            // another request, at its first wait state
             (counting, request) if 0 < states => {
-                *counting = Counting::Waiting { request, told: 1 };
+                *counting = Counting::Waiting(request, 1);
                 self.below.idle();
                 Reply::Wait
             }
@@ -110,10 +103,7 @@ impl<M: Memory> WaitStates<M> {
     {
         let reply = ask(&mut self.below, request);
         self.counting = match reply {
-            Reply::Wait => Counting::Waiting {
-                request,
-                told: self.states,
-            },
+            Reply::Wait => Counting::Waiting(request, self.states),
             _ => Counting::Nothing,
         };
         reply

@@ -33,7 +33,7 @@ pub enum Reply {
 }
 
 /// What a read or a write answers.
-#[derive(Clone, Copy, PartialEq, Eq, Debug)]
+#[derive(Clone, Copy)]
 pub enum Answer<T> {
     Ready(T),
     Wait,

@@ -1,10 +1,11 @@
 //! Wait states: a layer that says Wait a set number of times before it passes a request down.
 ghost use mathlib.Core.Path.{_≡_};
-ghost use mathlib.Core.Bool.{true, false};
-ghost use Rattle.base.specs.Bytes.{within};
+ghost use mathlib.Core.Bool.{true, false, cond};
+ghost use Prim.Native.Nat.{_+_};
+ghost use lib.Dec.{ltb};
 ghost use Rattle.base.specs.Refusals.{Says};
-ghost use Rattle.memory.specs.declared.wait_states.Counting.the-variants.{Nothing};
-ghost use Rattle.memory.specs.WaitStates.{wait-fits, wait-view, wait-means, same-request, Passes, WaitServes};
+ghost use Rattle.memory.specs.declared.wait_states.Counting.the-variants.{Nothing, Waiting};
+ghost use Rattle.memory.specs.WaitStates.{wait-fits, wait-means, same-request, told, Passes, WaitServes};
 use crate::Answer;
 use crate::Memory;
 use crate::Reply;
@@ -23,6 +24,32 @@ pub enum Counting {
     Nothing,
     /// This request, which the layer itself has told Wait so often.
     Waiting(Request, u32),
+}
+
+impl Counting {
+    /// Counts one more wait state of a request, of so many; false where it has had them all.
+    fn count(&mut self, request: Request, states: u32) -> bool
+        ensures waits { λ r. ⌜ r ≡ ltb (told (now (self .entry)) request) states ⌝ }
+        ensures after { λ r. ⌜ now (self .exit) ≡ cond r (Waiting request (told (now (self .entry)) request + 1)) (now (self .entry)) ⌝ }
+    {
+        match (self, request) {
+            // the same request again, in its wait states
+            (Counting::Waiting(counted, told), request)
+                if same(*counted, request) && *told < states => {
+                *told += 1;
+                true
+            }
+            // the same request, with its wait states over
+            (Counting::Waiting(counted, _), request) if same(*counted, request) => false,
+            // another request, at its first wait state
+            (counting, request) if 0 < states => {
+                *counting = Counting::Waiting(request, 1);
+                true
+            }
+            // there are no wait states
+            _ => false,
+        }
+    }
 }
 
 /// The wait states of the memory below it.
@@ -73,27 +100,11 @@ impl<M: Memory> WaitStates<M> {
             self.counting = Counting::Nothing;
             return Reply::Outside;
         }
-        let states = self.states;
-        match (&mut self.counting, request) {
-            // the same request again, in its wait states
-            (Counting::Waiting(counted, told), request)
-                if same(*counted, request) && *told < states => {
-                *told += 1;
-                self.below.idle();
-                Reply::Wait
-            }
-            // the same request, with its wait states over
-            (Counting::Waiting(counted, _), request) if same(*counted, request) => self.pass(
-                request,
-            ),
-            // another request, at its first wait state
-            (counting, request) if 0 < states => {
-                *counting = Counting::Waiting(request, 1);
-                self.below.idle();
-                Reply::Wait
-            }
-            // there are no wait states
-            (_, request) => self.pass(request),
+        if self.counting.count(request, self.states) {
+            self.below.idle();
+            Reply::Wait
+        } else {
+            self.pass(request)
         }
     }
 

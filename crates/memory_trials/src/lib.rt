@@ -11,9 +11,6 @@ mod tests {
     use base::refusal::Refusal;
     use base::refusal::RefusalDebug;
     use base::refusal::RefusalPartialEq;
-    use memory::Answer;
-    use memory::AnswerDebug;
-    use memory::AnswerPartialEq;
     use memory::Flat;
     use memory::FlatMemory;
     use memory::Memory;
@@ -21,10 +18,13 @@ mod tests {
     use memory::RepeatedDebug;
     use memory::RepeatedPartialEq;
     use memory::Reply;
+    use memory::ReplyDebug;
+    use memory::ReplyPartialEq;
     use memory::WaitStates;
     use memory::WaitStatesMemory;
     use memory::WriteBuffer;
     use memory::WriteBufferMemory;
+    use memory::ask;
     use memory::insist;
     use std::alloc::AllocError;
     use std::alloc::Global;
@@ -73,8 +73,11 @@ mod tests {
                         Repeated { reply, waits },
                     )?;
                 }
-                Told(address) => check_eq(memory.read(address), Answer::Wait)?,
-                Misses(address) => check_eq(memory.read(address), Answer::Outside)?,
+                Told(address) => check_eq(ask(memory, Request::Read { address }), Reply::Wait)?,
+                Misses(address) => check_eq(
+                    ask(memory, Request::Read { address }),
+                    Reply::Outside,
+                )?,
                 Idle => memory.idle(),
             }
         }
@@ -136,7 +139,7 @@ mod tests {
             b2: false,
             b3: true,
         };
-        check_eq(flat.write(28, 0x0d0c_0b0a, odd), Answer::Ready(()))?;
+        flat.write(28, 0x0d0c_0b0a, odd);
         check_eq(flat.peek(29), Some(0x0b))?;
         try_steps(&mut flat, &[Reads(28, 0x0d03_0b01, 0)])
     }

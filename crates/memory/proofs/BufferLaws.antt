@@ -24,7 +24,7 @@ use Rattle.memory.specs.Held.{oldest, laid, over}
 use Rattle.memory.specs.Meaning.{View, Meaning, Lawful, Same, Changed, Served, place}
 use Rattle.memory.specs.WriteBuffer.{asks, sent, behind, held, fits, buffer-waits, buffer-view, buffer-means, Misses, Takes, Sends, Passes, InTurn, Accepts, BufferServes, Idles, BufferIdles}
 use Rattle.memory.proofs.PostedWrites.{pending-length}
-use Rattle.memory.proofs.Rules.{same-as, longest-kept, waited, outside, layer-within, layer-aligned, layer-patient, layer-fewer}
+use Rattle.memory.proofs.Rules.{same-as, fixed, waited, outside, layer-within, layer-aligned, layer-patient, layer-fewer}
 
 over-same : {s t y z : ℕ} {ps qs : List PostedWrite} (x : ℕ) → s ≡ t → ps ≡ qs → y ≡ z → over s ps x y ≡ over t qs x z
 over-same x es eps ey = λ i. over (es i) (eps i) x (ey i)
@@ -139,7 +139,7 @@ module _ {M : Type 0} {m : Meaning M} (laws : Lawful m) where
   waits-behind : (b c : WriteBuffer M) (q : Request) (p : PostedWrite) (ps : List PostedWrite) → within (top .size b) (place q) ≡ true → held b ≡ p ∷ ps → Sends m b p c → ((r : Reply) → Served low (b .below) (asks p) r (c .below) → buffer-waits low (c .below) (sent (p ∷ ps) r) q < buffer-waits low (b .below) (p ∷ ps) q) → Served top b q Wait c
   waits-behind b c q p ps e k h less =
       let d = laws .serve _ _ (asks p) (h .reply) (h .below) in
-      waited top b c q e (fewer b c q e (longest-kept low _ _ (asks p) (h .reply) d) (rw (h .held, k) (less (h .reply) d))) (sends b c p ps (h .reply) k d (h .held))
+      waited top b c q e (fewer b c q e (fixed low _ _ (asks p) (h .reply) d .1) (rw (h .held, k) (less (h .reply) d))) (sends b c p ps (h .reply) k d (h .held))
 
   read : (b c : WriteBuffer M) (a : ℕ) (r : Reply) (ps : List PostedWrite) → within (top .size b) a ≡ true → held b ≡ ps → InTurn m b (oldest ps) (Read a) r c → Served top b (Read a) r c
   read b c a r [] e k h = passes b c a r e k (h .held) (laws .serve _ _ _ r (h .below))

@@ -1,5 +1,9 @@
 pub mod BufferLaws
+pub mod BufferReplays
+pub mod FlatReplays
 pub mod PostedWrites
+pub mod Replaying
 pub mod Requests
 pub mod Rules
 pub mod WaitLaws
+pub mod WaitReplays

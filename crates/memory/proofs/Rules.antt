@@ -46,15 +46,16 @@ module _ {M : Type 0} (v : View M) where
   outside m n (Read a) e s = (e, s)
   outside m n (Write a w l) e s = (e, s)
 
-  pub longest-kept : (m n : M) (q : Request) (r : Reply) → Served v m q r n → v .longest n ≡ v .longest m
-  longest-kept m n (Read a) (Word w) h = h .2 .longest
-  longest-kept m n (Read a) Done h = absurd h
-  longest-kept m n (Read a) Wait h = h .2 .longest
-  longest-kept m n (Read a) Outside h = h .1 .longest
-  longest-kept m n (Write a w l) (Word x) h = absurd h
-  longest-kept m n (Write a w l) Done h = h .1 .longest
-  longest-kept m n (Write a w l) Wait h = h .2 .longest
-  longest-kept m n (Write a w l) Outside h = h .1 .longest
+  -- size and longest wait are fixed
+  pub fixed : (m n : M) (q : Request) (r : Reply) → Served v m q r n → (v .size n ≡ v .size m) × (v .longest n ≡ v .longest m)
+  fixed m n (Read a) (Word w) h = (h .2 .size, h .2 .longest)
+  fixed m n (Read a) Done h = absurd h
+  fixed m n (Read a) Wait h = (h .2 .size, h .2 .longest)
+  fixed m n (Read a) Outside h = (h .1 .size, h .1 .longest)
+  fixed m n (Write a w l) (Word x) h = absurd h
+  fixed m n (Write a w l) Done h = (h .1 .size, h .1 .longest)
+  fixed m n (Write a w l) Wait h = (h .2 .size, h .2 .longest)
+  fixed m n (Write a w l) Outside h = (h .1 .size, h .1 .longest)
 
 -- A layer is good, or it has size 0 and never waits.
 

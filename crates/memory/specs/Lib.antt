@@ -3,3 +3,4 @@ pub mod Flat
 pub mod WaitStates
 pub mod Held
 pub mod WriteBuffer
+pub mod Runs

@@ -19,6 +19,9 @@ pub use wait_states::WaitStatesMemory;
 pub use write_buffer::WriteBuffer;
 pub use write_buffer::WriteBufferMemory;
 
+/// The longest wait that a layer may have.
+const MOST_WAITS: u32 = 4095;
+
 /// What a memory replies to a request.
 #[derive(Clone, Copy, PartialEq, Eq, Debug)]
 pub enum Reply {

@@ -5,8 +5,10 @@ ghost use Prim.Native.Nat.{_+_};
 ghost use lib.Dec.{ltb};
 ghost use Rattle.base.specs.Refusals.{Says};
 ghost use Rattle.memory.specs.declared.wait_states.Counting.the-variants.{Nothing, Waiting};
+ghost use Rattle.memory.specs.Runs.{Replays};
 ghost use Rattle.memory.specs.WaitStates.{wait-fits, wait-means, same-request, told, Passes, WaitServes};
 use crate::Answer;
+use crate::MOST_WAITS;
 use crate::Memory;
 use crate::Reply;
 use crate::address_of;
@@ -65,7 +67,7 @@ impl<M: Memory> WaitStates<M> {
     pub fn check(below: &M, states: u32) -> Result<(), Refusal>
         ensures { λ r. ⌜ Says (λ _. wait-fits states (M·Memory .means .view .longest (now (below .entry))) ≡ true) (λ why. (why ≡ 2) × (wait-fits states (M·Memory .means .view .longest (now (below .entry))) ≡ false)) r ⌝ }
     {
-        if states <= 15 && below.longest() <= 4095 - states {
+        if states <= 15 && below.longest() <= MOST_WAITS - states {
             Ok(())
         } else {
             Err(Refusal::LongWait)
@@ -77,6 +79,7 @@ impl<M: Memory> WaitStates<M> {
         ensures below { λ r. ⌜ r .below ≡ below ⌝ }
         ensures states { λ r. ⌜ r .states ≡ states ⌝ }
         ensures counting { λ r. ⌜ r .counting ≡ Nothing ⌝ }
+        ensures replays { λ _. ⌜ (Replays (M·Memory .means) → Replays (wait-means (M·Memory .means))) ⌝ }
     {
         WaitStates {
             below,

@@ -5,8 +5,10 @@ ghost use mathlib.Core.List.{[]};
 ghost use Rattle.base.specs.Refusals.{Says};
 ghost use Rattle.std.specs.declared.option.Option.the-variants.{Some};
 ghost use Rattle.memory.specs.Held.{pending, oldest};
+ghost use Rattle.memory.specs.Runs.{Replays};
 ghost use Rattle.memory.specs.WriteBuffer.{buffer-fits, buffer-means, Sends, BufferServes};
 use crate::Answer;
+use crate::MOST_WAITS;
 use crate::Memory;
 use crate::Reply;
 use crate::address_of;
@@ -30,7 +32,7 @@ impl<M: Memory> WriteBuffer<M> {
     pub fn check(below: &M) -> Result<(), Refusal>
         ensures { λ r. ⌜ Says (λ _. buffer-fits (M·Memory .means .view .longest (now (below .entry))) ≡ true) (λ why. (why ≡ 2) × (buffer-fits (M·Memory .means .view .longest (now (below .entry))) ≡ false)) r ⌝ }
     {
-        if below.longest() <= (4095 - 4) / 5 {
+        if below.longest() <= (MOST_WAITS - 4) / 5 {
             Ok(())
         } else {
             Err(Refusal::LongWait)
@@ -41,6 +43,7 @@ impl<M: Memory> WriteBuffer<M> {
     pub fn new(below: M) -> WriteBuffer<M>
         ensures below { λ r. ⌜ r .below ≡ below ⌝ }
         ensures held { λ r. ⌜ pending (r .held) ≡ [] ⌝ }
+        ensures replays { λ _. ⌜ (Replays (M·Memory .means) → Replays (buffer-means (M·Memory .means))) ⌝ }
     {
         WriteBuffer {
             below,

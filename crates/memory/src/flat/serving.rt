@@ -7,9 +7,11 @@ ghost use lib.ListN.{getD};
 ghost use Rattle.std.specs.Of.Vec.{vec-items, vec-len};
 ghost use Rattle.base.specs.Refusals.{Says};
 ghost use Rattle.memory.specs.Flat.{flat-fits, flat-means};
+ghost use Rattle.memory.specs.Runs.{Replays};
 use super::Flat;
 use crate::Answer;
 use crate::Memory;
+use crate::is_within;
 use base::bus::Lanes;
 use base::refusal::Refusal;
 
@@ -29,6 +31,7 @@ impl Flat {
     pub fn new(bytes: Vec<u8>) -> Flat
         ensures bytes { λ r. ⌜ r .bytes ≡ bytes ⌝ }
         ensures size { λ r. ⌜ r .size ≡ cond (flat-fits (vec-len bytes)) (vec-len bytes) 0 ⌝ }
+        ensures replays { λ _. ⌜ Replays flat-means ⌝ }
     {
         let len = bytes.len();
         let size = match Flat::check(len) {
@@ -43,7 +46,7 @@ pub impl Memory for Flat as FlatMemory {
     ghost means = { flat-means };
 
     fn read(&mut self, address: u32) -> Answer<u32> {
-        if address % 4 != 0 || address >= self.size {
+        if !is_within(self.size, address) {
             return Answer::Outside;
         }
         let at = address as usize;
@@ -57,7 +60,7 @@ pub impl Memory for Flat as FlatMemory {
     }
 
     fn write(&mut self, address: u32, word: u32, lanes: Lanes) -> Answer<()> {
-        if address % 4 != 0 || address >= self.size {
+        if !is_within(self.size, address) {
             return Answer::Outside;
         }
         let at = address as usize;

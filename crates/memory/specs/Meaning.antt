@@ -5,7 +5,10 @@ use Prim.Native.Nat.{ℕ, _%_, _<_, _≤_}
 use lib.Dec.{ltb}
 use Rattle.std.specs.declared.option.Option.{Option}
 use Rattle.std.specs.declared.option.Option.the-variants.{Some, None}
+use Rattle.std.specs.declared.result.Result.{Result}
 use Rattle.base.specs.Bytes.{within, word, put}
+use Rattle.base.specs.Refusals.{Says}
+use Rattle.base.specs.declared.refusal.Refusal.{Refusal}
 use Rattle.base.specs.declared.bus.Lanes.{Lanes}
 use Rattle.base.specs.declared.bus.Request.{Request}
 use Rattle.base.specs.declared.bus.Request.the-variants.{Read, Write}
@@ -85,3 +88,7 @@ Settled v m q Wait n = ⊥
 Settled v m q (Word w) n = Served v m q (Word w) n
 Settled v m q Done n = Served v m q Done n
 Settled v m q Outside n = Served v m q Outside n
+
+-- The answer of a check: it passes what is sound, and refuses the rest by that number.
+abbrev pub Checked : Bool → ℕ → Result Unit Refusal → Type 0
+Checked sound number = Says (λ _. sound ≡ true) (λ why. (why ≡ number) × (sound ≡ false))

@@ -1,10 +1,10 @@
 //! Wait states: a layer that says Wait a set number of times before it passes a request down.
 ghost use mathlib.Core.Path.{_≡_};
-ghost use mathlib.Core.Bool.{true, false, cond};
+ghost use mathlib.Core.Bool.{cond};
 ghost use Prim.Native.Nat.{_+_};
 ghost use lib.Dec.{ltb};
-ghost use Rattle.base.specs.Refusals.{Says};
 ghost use Rattle.memory.specs.declared.wait_states.Counting.the-variants.{Nothing, Waiting};
+ghost use Rattle.memory.specs.Meaning.{Checked};
 ghost use Rattle.memory.specs.Runs.{Replays};
 ghost use Rattle.memory.specs.WaitStates.{wait-fits, wait-means, same-request, told, Passes, WaitServes};
 use crate::Answer;
@@ -65,7 +65,7 @@ pub struct WaitStates<M: Memory> {
 impl<M: Memory> WaitStates<M> {
     /// Refuses more than 15 wait states, and a longest wait, with that of the memory below, above 4095.
     pub fn check(below: &M, states: u32) -> Result<(), Refusal>
-        ensures { λ r. ⌜ Says (λ _. wait-fits states (M·Memory .means .view .longest (now (below .entry))) ≡ true) (λ why. (why ≡ 2) × (wait-fits states (M·Memory .means .view .longest (now (below .entry))) ≡ false)) r ⌝ }
+        ensures { λ r. ⌜ Checked (wait-fits states (M·Memory .means .view .longest (now (below .entry)))) 2 r ⌝ }
     {
         if states <= 15 && below.longest() <= MOST_WAITS - states {
             Ok(())
@@ -74,7 +74,7 @@ impl<M: Memory> WaitStates<M> {
         }
     }
 
-    /// A layer over a memory; of size 0 if it does not pass the check.
+    /// A layer over a memory; of size 0 if it does not pass the check. What it replies follows from the calls, if that is so below.
     pub fn new(below: M, states: u32) -> WaitStates<M>
         ensures below { λ r. ⌜ r .below ≡ below ⌝ }
         ensures states { λ r. ⌜ r .states ≡ states ⌝ }

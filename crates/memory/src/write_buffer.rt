@@ -1,10 +1,8 @@
 //! A write buffer: a layer that accepts writes at once and sends them below when it can.
 ghost use mathlib.Core.Path.{_≡_};
-ghost use mathlib.Core.Bool.{true, false};
 ghost use mathlib.Core.List.{[]};
-ghost use Rattle.base.specs.Refusals.{Says};
-ghost use Rattle.std.specs.declared.option.Option.the-variants.{Some};
-ghost use Rattle.memory.specs.Held.{pending, oldest};
+ghost use Rattle.memory.specs.Held.{pending};
+ghost use Rattle.memory.specs.Meaning.{Checked};
 ghost use Rattle.memory.specs.Runs.{Replays};
 ghost use Rattle.memory.specs.WriteBuffer.{buffer-fits, buffer-means, Sends, BufferServes};
 use crate::Answer;
@@ -30,7 +28,7 @@ pub struct WriteBuffer<M: Memory> {
 impl<M: Memory> WriteBuffer<M> {
     /// Refuses a longest wait above 4095: five times that of the memory below, and four.
     pub fn check(below: &M) -> Result<(), Refusal>
-        ensures { λ r. ⌜ Says (λ _. buffer-fits (M·Memory .means .view .longest (now (below .entry))) ≡ true) (λ why. (why ≡ 2) × (buffer-fits (M·Memory .means .view .longest (now (below .entry))) ≡ false)) r ⌝ }
+        ensures { λ r. ⌜ Checked (buffer-fits (M·Memory .means .view .longest (now (below .entry)))) 2 r ⌝ }
     {
         if below.longest() <= (MOST_WAITS - 4) / 5 {
             Ok(())
@@ -39,7 +37,7 @@ impl<M: Memory> WriteBuffer<M> {
         }
     }
 
-    /// A buffer over a memory, that holds nothing; of size 0 if it does not pass the check.
+    /// A buffer over a memory, that holds nothing; of size 0 if it does not pass the check. What it replies follows from the calls, if that is so below.
     pub fn new(below: M) -> WriteBuffer<M>
         ensures below { λ r. ⌜ r .below ≡ below ⌝ }
         ensures held { λ r. ⌜ pending (r .held) ≡ [] ⌝ }
@@ -89,7 +87,7 @@ impl<M: Memory> WriteBuffer<M> {
         }
     }
 
-    /// Asks the memory below for the oldest write; it stays held where it is told to wait.
+    /// Sends the oldest write below; it stays held where it is told to wait.
     fn send(&mut self, write: PostedWrite)
         ensures { λ _. ⌜ Sends (M·Memory .means) (now (self .entry)) write (now (self .exit)) ⌝ }
     {

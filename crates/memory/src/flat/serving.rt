@@ -1,12 +1,12 @@
 //! How a flat memory is made, and how it serves.
 ghost use mathlib.Core.Path.{_≡_};
-ghost use mathlib.Core.Bool.{true, false, cond, _&&_};
+ghost use mathlib.Core.Bool.{cond, _&&_};
 ghost use Prim.Native.Nat.{ℕ, _<_};
 ghost use lib.Dec.{eqb};
 ghost use lib.ListN.{getD};
 ghost use Rattle.std.specs.Of.Vec.{vec-items, vec-len};
-ghost use Rattle.base.specs.Refusals.{Says};
 ghost use Rattle.memory.specs.Flat.{flat-fits, flat-means};
+ghost use Rattle.memory.specs.Meaning.{Checked};
 ghost use Rattle.memory.specs.Runs.{Replays};
 use super::Flat;
 use crate::Answer;
@@ -18,7 +18,7 @@ use base::refusal::Refusal;
 impl Flat {
     /// Refuses a number of bytes that is no multiple of 16 from 16 to 65536.
     pub fn check(len: usize) -> Result<(), Refusal>
-        ensures { λ r. ⌜ Says (λ _. flat-fits len ≡ true) (λ why. (why ≡ 1) × (flat-fits len ≡ false)) r ⌝ }
+        ensures { λ r. ⌜ Checked (flat-fits len) 1 r ⌝ }
     {
         if len % 16 == 0 && 16 <= len && len <= 65536 {
             Ok(())
@@ -27,7 +27,7 @@ impl Flat {
         }
     }
 
-    /// A memory of these bytes; of size 0 if their number does not pass the check.
+    /// A memory of these bytes; of size 0 if their number does not pass the check. What it replies follows from the calls.
     pub fn new(bytes: Vec<u8>) -> Flat
         ensures bytes { λ r. ⌜ r .bytes ≡ bytes ⌝ }
         ensures size { λ r. ⌜ r .size ≡ cond (flat-fits (vec-len bytes)) (vec-len bytes) 0 ⌝ }

@@ -7,6 +7,7 @@ ghost use Rattle.memory.specs.Meaning.{Meaning, Lawful, Settled, peeked, place
 
 mod flat;
 mod held;
+mod replies;
 mod wait_states;
 mod write_buffer;
 
@@ -14,6 +15,7 @@ use base::bus::Lanes;
 use base::bus::Request;
 pub use flat::Flat;
 pub use flat::FlatMemory;
+pub use replies::replies_follow_calls;
 pub use wait_states::WaitStates;
 pub use wait_states::WaitStatesMemory;
 pub use write_buffer::WriteBuffer;

@@ -5,7 +5,6 @@ ghost use Prim.Native.Nat.{_+_};
 ghost use lib.Dec.{ltb};
 ghost use Rattle.memory.specs.declared.wait_states.Counting.the-variants.{Nothing, Waiting};
 ghost use Rattle.memory.specs.Meaning.{Checked};
-ghost use Rattle.memory.specs.Runs.{Replays};
 ghost use Rattle.memory.specs.WaitStates.{wait-fits, wait-means, same-request, told, Passes, WaitServes};
 use crate::Answer;
 use crate::MOST_WAITS;
@@ -74,12 +73,11 @@ impl<M: Memory> WaitStates<M> {
         }
     }
 
-    /// A layer over a memory; of size 0 if it does not pass the check. What it replies follows from the calls, if that is so below.
+    /// A layer over a memory; of size 0 if it does not pass the check.
     pub fn new(below: M, states: u32) -> WaitStates<M>
         ensures below { λ r. ⌜ r .below ≡ below ⌝ }
         ensures states { λ r. ⌜ r .states ≡ states ⌝ }
         ensures counting { λ r. ⌜ r .counting ≡ Nothing ⌝ }
-        ensures replays { λ _. ⌜ (Replays (M·Memory .means) → Replays (wait-means (M·Memory .means))) ⌝ }
     {
         WaitStates {
             below,

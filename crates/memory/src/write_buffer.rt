@@ -3,7 +3,6 @@ ghost use mathlib.Core.Path.{_≡_};
 ghost use mathlib.Core.List.{[]};
 ghost use Rattle.memory.specs.Held.{pending};
 ghost use Rattle.memory.specs.Meaning.{Checked};
-ghost use Rattle.memory.specs.Runs.{Replays};
 ghost use Rattle.memory.specs.WriteBuffer.{buffer-fits, buffer-means, Sends, BufferServes};
 use crate::Answer;
 use crate::MOST_WAITS;
@@ -37,11 +36,10 @@ impl<M: Memory> WriteBuffer<M> {
         }
     }
 
-    /// A buffer over a memory, that holds nothing; of size 0 if it does not pass the check. What it replies follows from the calls, if that is so below.
+    /// A buffer over a memory, that holds nothing; of size 0 if it does not pass the check.
     pub fn new(below: M) -> WriteBuffer<M>
         ensures below { λ r. ⌜ r .below ≡ below ⌝ }
         ensures held { λ r. ⌜ pending (r .held) ≡ [] ⌝ }
-        ensures replays { λ _. ⌜ (Replays (M·Memory .means) → Replays (buffer-means (M·Memory .means))) ⌝ }
     {
         WriteBuffer {
             below,

@@ -7,7 +7,6 @@ ghost use lib.ListN.{getD};
 ghost use Rattle.std.specs.Of.Vec.{vec-items, vec-len};
 ghost use Rattle.memory.specs.Flat.{flat-fits, flat-means};
 ghost use Rattle.memory.specs.Meaning.{Checked};
-ghost use Rattle.memory.specs.Runs.{Replays};
 use super::Flat;
 use crate::Answer;
 use crate::Memory;
@@ -27,11 +26,10 @@ impl Flat {
         }
     }
 
-    /// A memory of these bytes; of size 0 if their number does not pass the check. What it replies follows from the calls.
+    /// A memory of these bytes; of size 0 if their number does not pass the check.
     pub fn new(bytes: Vec<u8>) -> Flat
         ensures bytes { λ r. ⌜ r .bytes ≡ bytes ⌝ }
         ensures size { λ r. ⌜ r .size ≡ cond (flat-fits (vec-len bytes)) (vec-len bytes) 0 ⌝ }
-        ensures replays { λ _. ⌜ Replays flat-means ⌝ }
     {
         let len = bytes.len();
         let size = match Flat::check(len) {

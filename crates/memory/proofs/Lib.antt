@@ -7,3 +7,4 @@ pub mod Requests
 pub mod Rules
 pub mod WaitLaws
 pub mod WaitReplays
+pub mod Waiting

@@ -46,6 +46,15 @@ module _ {M : Type 0} (v : View M) where
   outside m n (Read a) e s = (e, s)
   outside m n (Write a w l) e s = (e, s)
 
+  -- a request that is told to wait has fewer waits left, and alters nothing
+  pub fewer : (m n : M) (q : Request) → Served v m q Wait n → v .waits n q < v .waits m q
+  fewer m n (Read a) h = h .1
+  fewer m n (Write a w l) h = h .1
+
+  pub unmoved : (m n : M) (q : Request) → Served v m q Wait n → Same v m n
+  unmoved m n (Read a) h = h .2
+  unmoved m n (Write a w l) h = h .2
+
   -- size and longest wait are fixed
   pub fixed : (m n : M) (q : Request) (r : Reply) → Served v m q r n → (v .size n ≡ v .size m) × (v .longest n ≡ v .longest m)
   fixed m n (Read a) (Word w) h = (h .2 .size, h .2 .longest)

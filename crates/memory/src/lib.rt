@@ -4,6 +4,7 @@ ghost use Prim.Native.Nat.{_≤_};
 ghost use Rattle.base.specs.Bytes.{within};
 ghost use Rattle.base.specs.declared.bus.Request.the-variants.{Read, Write};
 ghost use Rattle.memory.specs.Meaning.{Meaning, Lawful, Settled, peeked, place, of-read, of-write};
+ghost use Rattle.memory.specs.Runs.{Repeats};
 
 mod flat;
 mod held;
@@ -109,6 +110,7 @@ pub struct Repeated {
 
 /// Repeats a request until the memory does not say Wait. It says so at most as often as it has waits left, so never more often than its longest wait.
 pub fn insist<M: Memory>(memory: &mut M, request: Request) -> Repeated
+    ensures repeats { λ r. ⌜ Repeats (M·Memory .means) (now (memory .entry)) request (r .waits) (r .reply) (now (memory .exit)) ⌝ }
     ensures settled { λ r. ⌜ Settled (M·Memory .means .view) (now (memory .entry)) request (r .reply) (now (memory .exit)) ⌝ }
     ensures waits { λ r. ⌜ r .waits ≤ M·Memory .means .view .waits (now (memory .entry)) request ⌝ }
     ensures longest { λ r. ⌜ r .waits ≤ M·Memory .means .view .longest (now (memory .entry)) ⌝ }

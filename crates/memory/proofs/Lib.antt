@@ -7,4 +7,3 @@ pub mod Requests
 pub mod Rules
 pub mod WaitLaws
 pub mod WaitReplays
-pub mod Waiting

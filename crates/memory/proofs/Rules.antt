@@ -12,6 +12,7 @@ use Rattle.base.specs.declared.bus.Request.the-variants.{Read, Write}
 use Rattle.memory.specs.declared.Reply.{Reply}
 use Rattle.memory.specs.declared.Reply.the-variants.{Word, Done, Wait, Outside}
 use Rattle.memory.specs.Meaning.{View, Meaning, Lawful, Same, Changed, Served, Settled, place}
+use Rattle.memory.specs.Runs.{Waits, start, again}
 
 module _ {M : Type 0} (v : View M) where
   pub same-as : {m n : M} → n ≡ m → Same v m n
@@ -65,6 +66,11 @@ module _ {M : Type 0} (v : View M) where
   fixed m n (Write a w l) Done h = (h .1 .size, h .1 .longest)
   fixed m n (Write a w l) Wait h = (h .2 .size, h .2 .longest)
   fixed m n (Write a w l) Outside h = (h .1 .size, h .1 .longest)
+
+module _ {M : Type 0} {means : Meaning M} (laws : Lawful means) where
+  pub waits-same : {q : Request} {m n : M} {waits : ℕ} → Waits means q m waits n → Same (means .view) m n
+  waits-same start = same-as (means .view) refl
+  waits-same {q} (again w h) = same-on (means .view) (waits-same w) (unmoved (means .view) _ _ q (laws .serve _ _ q Wait h))
 
 -- A layer is good, or it has size 0 and never waits.
 

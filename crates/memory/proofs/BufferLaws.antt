@@ -1,16 +1,14 @@
 -- A write buffer keeps the rules, if the memory below does. Assumes nothing.
-use mathlib.Core.Path.{_≡_, refl, sym, ap, subst, _∙_}
+use mathlib.Core.Path.{_≡_, refl, sym, ap, _∙_}
 use mathlib.Core.Bool.{Bool, true, false, cond}
-use mathlib.Core.List.{List, [], _∷_, _++_}
-use mathlib.Core.Logic.{_⊎_, inl, inr}
-use Prim.Native.Nat.{ℕ, _+_, _*_, _/_, _%_, _<_, _≤_}
+use mathlib.Core.List.{List, [], _∷_}
+use mathlib.Core.Logic.{inl, inr}
+use Prim.Native.Nat.{ℕ, _+_, _*_, _%_, _<_, _≤_}
 use native.Mathlib.Omega.{arith}
 use lib.Dec.{leb}
 use lib.ListN.{length, drop}
-use Rattle.std.specs.Orderings.{When}
-use Rattle.std.specs.declared.option.Option.the-variants.{Some, None}
 use Rattle.std.proofs.shelf.Sums.{folded-push}
-use Rattle.std.proofs.shelf.Tests.{leb-true, leb-false, le-leb, lt-leb, cond-true, cond-false, cases-bool, cond-both, both-ways}
+use Rattle.std.proofs.shelf.Tests.{leb-true, lt-leb, cond-true, cond-false, cases-bool, cond-both, both-ways}
 use Rattle.std.proofs.shelf.Ways.{when-true, when-false}
 use Rattle.base.specs.Bytes.{within, word, put}
 use Rattle.base.specs.declared.bus.Lanes.{Lanes}
@@ -22,7 +20,7 @@ use Rattle.memory.specs.declared.held.PostedWrite.{PostedWrite}
 use Rattle.memory.specs.declared.write_buffer.WriteBuffer.{WriteBuffer}
 use Rattle.memory.specs.Held.{oldest, laid, over}
 use Rattle.memory.specs.Meaning.{View, Meaning, Lawful, Same, Changed, Served, place}
-use Rattle.memory.specs.WriteBuffer.{asks, sent, behind, held, fits, buffer-waits, buffer-view, buffer-means, Misses, Takes, Sends, Passes, InTurn, Accepts, BufferServes, Idles, BufferIdles}
+use Rattle.memory.specs.WriteBuffer.{asks, sent, behind, held, fits, buffer-waits, buffer-view, buffer-means, Takes, Sends, InTurn, Accepts, BufferServes, Idles}
 use Rattle.memory.proofs.PostedWrites.{pending-length}
 use Rattle.memory.proofs.Rules.{same-as, fixed, waited, outside, layer-within, layer-aligned, layer-patient, layer-fewer}
 

@@ -1,11 +1,8 @@
 -- What a write buffer replies follows from the calls, if it does below. Assumes nothing.
 use mathlib.Core.Path.{_≡_, refl, sym, ap, subst, _∙_}
-use mathlib.Core.Bool.{Bool, true, false}
-use mathlib.Core.List.{List, [], _∷_}
-use mathlib.Core.Logic.{_⊎_, inl, inr}
+use mathlib.Core.Logic.{inl, inr}
 use lib.Dec.{leb}
 use lib.ListN.{length}
-use Rattle.std.specs.Orderings.{When}
 use Rattle.std.specs.declared.option.Option.{Option}
 use Rattle.std.specs.declared.option.Option.the-variants.{Some, None}
 use Rattle.std.proofs.shelf.Tests.{cases-bool}
@@ -14,12 +11,12 @@ use Rattle.base.specs.Bytes.{within}
 use Rattle.base.specs.declared.bus.Request.{Request}
 use Rattle.base.specs.declared.bus.Request.the-variants.{Read, Write}
 use Rattle.memory.specs.declared.Reply.{Reply}
-use Rattle.memory.specs.declared.Reply.the-variants.{Wait, Done, Outside}
+use Rattle.memory.specs.declared.Reply.the-variants.{Done, Outside}
 use Rattle.memory.specs.declared.held.PostedWrite.{PostedWrite}
 use Rattle.memory.specs.declared.write_buffer.WriteBuffer.{WriteBuffer}
 use Rattle.memory.specs.Held.{oldest}
 use Rattle.memory.specs.Meaning.{Meaning, Lawful, place}
-use Rattle.memory.specs.WriteBuffer.{asks, sent, held, buffer-view, buffer-means, Misses, Takes, Sends, Passes, InTurn, Accepts, BufferServes, Idles, BufferIdles}
+use Rattle.memory.specs.WriteBuffer.{asks, held, buffer-view, buffer-means, Misses, Takes, Sends, InTurn, Accepts, BufferServes, Idles}
 use Rattle.memory.specs.Runs.{Replays}
 use Rattle.memory.proofs.Replaying.{Together, together-itself, together-as, together-serve, together-idle, together-fixed, replays-by}
 

@@ -1,12 +1,11 @@
 -- Memories that reply alike to the same calls. Assumes nothing.
-use mathlib.Core.Path.{_≡_, refl, sym, ap, subst, _∙_}
+use mathlib.Core.Path.{_≡_, refl, sym, _∙_}
 use mathlib.Core.List.{List, [], _∷_}
-use Prim.Native.Nat.{ℕ}
 use Rattle.std.specs.declared.option.Option.{Option}
 use Rattle.std.specs.declared.option.Option.the-variants.{Some, None}
 use Rattle.base.specs.declared.bus.Request.{Request}
 use Rattle.memory.specs.declared.Reply.{Reply}
-use Rattle.memory.specs.Meaning.{View, Meaning, Lawful}
+use Rattle.memory.specs.Meaning.{Meaning, Lawful}
 use Rattle.memory.specs.Runs.{Runs, none, asked, idled, Replays}
 use Rattle.memory.proofs.Rules.{fixed}
 

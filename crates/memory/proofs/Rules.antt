@@ -1,11 +1,11 @@
 -- What the rules of a memory give over several clocks. Assumes nothing.
-use mathlib.Core.Path.{_≡_, refl, sym, ap, _∙_}
+use mathlib.Core.Path.{_≡_, refl, ap, _∙_}
 use mathlib.Core.Bool.{Bool, true, false, cond}
 use native.Mathlib.Omega.{arith}
 use Rattle.std.proofs.shelf.Tests.{ltb-true, and-parts}
 use Prim.Native.Nat.{ℕ, _%_, _<_, _≤_}
 use lib.Dec.{eqb, ltb}
-use Rattle.base.specs.Bytes.{within, word, put}
+use Rattle.base.specs.Bytes.{within}
 use Rattle.base.specs.declared.bus.Lanes.{Lanes}
 use Rattle.base.specs.declared.bus.Request.{Request}
 use Rattle.base.specs.declared.bus.Request.the-variants.{Read, Write}

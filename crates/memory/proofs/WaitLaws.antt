@@ -1,12 +1,12 @@
 -- Wait states keep the rules, if the memory below does. Assumes nothing.
-use mathlib.Core.Path.{_≡_, refl, sym, ap, _∙_}
-use mathlib.Core.Bool.{Bool, true, false, cond}
-use mathlib.Core.Logic.{_⊎_, inl, inr}
-use Prim.Native.Nat.{ℕ, _+_, _-_, _%_, _<_, _≤_}
+use mathlib.Core.Path.{_≡_}
+use mathlib.Core.Bool.{true, false}
+use mathlib.Core.Logic.{inl, inr}
+use Prim.Native.Nat.{ℕ, _+_, _-_, _<_, _≤_}
 use native.Mathlib.Omega.{arith}
 use lib.Dec.{ltb}
 use Rattle.std.specs.Orderings.{When}
-use Rattle.std.proofs.shelf.Tests.{ltb-true, ltb-false, lt-ltb, le-ltb, cond-true, cond-false, cases-bool, cases-lt, cond-both, both-ways}
+use Rattle.std.proofs.shelf.Tests.{ltb-true, ltb-false, lt-ltb, le-ltb, cond-true, cond-false, cases-bool, cases-lt, both-ways}
 use Rattle.std.proofs.shelf.Ways.{when-true, when-false}
 use Rattle.base.specs.Bytes.{within}
 use Rattle.base.specs.declared.bus.Lanes.{Lanes}

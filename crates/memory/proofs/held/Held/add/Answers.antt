@@ -1,5 +1,5 @@
 use native.Mathlib.Omega.{arith}
-use lib.ListN.{length, length-take}
+use lib.ListN.{length-take}
 use Rattle.std.proofs.shelf.Lists.{take-more-set}
 use Rattle.memory.proofs.held.Held.add.Needs as need
 

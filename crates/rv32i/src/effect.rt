@@ -10,22 +10,16 @@ use crate::instruction::Condition;
 use crate::instruction::ImmediateOp;
 use crate::instruction::Instruction;
 use crate::instruction::LoadKind;
-use crate::instruction::LoadKindDebug;
-use crate::instruction::LoadKindPartialEq;
 use crate::instruction::RegisterOp;
 use crate::instruction::ShiftOp;
 use crate::instruction::StoreKind;
-use crate::instruction::StoreKindDebug;
-use crate::instruction::StoreKindPartialEq;
 use crate::register::Register;
 use base::branch::Outcome;
-use base::branch::OutcomeDebug;
-use base::branch::OutcomePartialEq;
 use base::bus::Lanes;
 use base::bus::Request;
 
 /// What execution comes to.
-#[derive(Clone, Copy, PartialEq, Eq, Debug)]
+#[derive(Clone, Copy)]
 pub struct Effect {
     /// The value for the destination, or the address of a load or a store.
     pub result: u32,
@@ -36,7 +30,7 @@ pub struct Effect {
 }
 
 /// How an instruction uses the data memory.
-#[derive(Clone, Copy, PartialEq, Eq, Debug)]
+#[derive(Clone, Copy)]
 pub enum Access {
     Load(LoadKind),
     Store(StoreKind),

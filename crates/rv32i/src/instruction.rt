@@ -1,10 +1,8 @@
 //! The forty instructions.
 use crate::register::Register;
-use crate::register::RegisterDebug;
-use crate::register::RegisterPartialEq;
 
 /// When a branch is taken.
-#[derive(Clone, Copy, PartialEq, Eq, Debug)]
+#[derive(Clone, Copy)]
 pub enum Condition {
     Eq,
     Ne,
@@ -15,7 +13,7 @@ pub enum Condition {
 }
 
 /// What a load reads, and how it fills the register.
-#[derive(Clone, Copy, PartialEq, Eq, Debug)]
+#[derive(Clone, Copy)]
 pub enum LoadKind {
     Byte,
     Half,
@@ -25,7 +23,7 @@ pub enum LoadKind {
 }
 
 /// What a store writes.
-#[derive(Clone, Copy, PartialEq, Eq, Debug)]
+#[derive(Clone, Copy)]
 pub enum StoreKind {
     Byte,
     Half,
@@ -33,7 +31,7 @@ pub enum StoreKind {
 }
 
 /// What is computed of a register and an immediate.
-#[derive(Clone, Copy, PartialEq, Eq, Debug)]
+#[derive(Clone, Copy)]
 pub enum ImmediateOp {
     Add,
     Slt,
@@ -44,7 +42,7 @@ pub enum ImmediateOp {
 }
 
 /// A shift by an amount in the word.
-#[derive(Clone, Copy, PartialEq, Eq, Debug)]
+#[derive(Clone, Copy)]
 pub enum ShiftOp {
     Sll,
     Srl,
@@ -52,7 +50,7 @@ pub enum ShiftOp {
 }
 
 /// What is computed of two registers.
-#[derive(Clone, Copy, PartialEq, Eq, Debug)]
+#[derive(Clone, Copy)]
 pub enum RegisterOp {
     Add,
     Sub,
@@ -67,7 +65,7 @@ pub enum RegisterOp {
 }
 
 /// Which of the forty.
-#[derive(Clone, Copy, PartialEq, Eq, Debug)]
+#[derive(Clone, Copy)]
 pub enum Operation {
     Lui,
     Auipc,
@@ -85,7 +83,7 @@ pub enum Operation {
 }
 
 /// An instruction with its registers and its immediate. An upper immediate is held with its twelve low zeros.
-#[derive(Clone, Copy, PartialEq, Eq, Debug)]
+#[derive(Clone, Copy)]
 pub enum Instruction {
     Lui {
         rd: Register,

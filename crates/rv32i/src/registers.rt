@@ -47,7 +47,7 @@ impl Register {
 }
 
 /// The values of x0 to x31.
-#[derive(Clone, Copy, PartialEq, Eq, Debug)]
+#[derive(Clone, Copy)]
 pub struct Registers {
     values: [u32; 32],
 }

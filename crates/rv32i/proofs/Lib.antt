@@ -3,6 +3,7 @@ pub mod Laws
 pub mod Masks
 pub mod Numbered
 pub mod Ors
+pub mod OwnBytes
 pub mod Round
 pub mod SixFields
 pub mod Table

@@ -1,3 +1,4 @@
+pub mod Bytewise
 pub mod Causes
 pub mod Effects
 pub mod Fields

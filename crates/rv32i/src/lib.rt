@@ -1,4 +1,5 @@
 //! The forty instructions of RV32I: their words, and what each does, in the pieces that a machine composes.
+pub mod bytewise;
 pub mod cause;
 pub mod decoding;
 pub mod effect;

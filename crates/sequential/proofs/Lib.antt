@@ -1,3 +1,4 @@
 pub mod Advancing
 pub mod Answered
+pub mod Kept
 pub mod Running

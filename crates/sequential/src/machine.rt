@@ -1,6 +1,6 @@
 //! The machine that runs.
 ghost use mathlib.Core.Path.{_≡_};
-ghost use Prim.Native.Nat.{_<_, _≤_};
+ghost use Prim.Native.Nat.{_%_, _<_, _≤_};
 ghost use lib.ListN.{getD, replicate};
 ghost use Rattle.base.specs.Refusals.{Says};
 ghost use Rattle.std.specs.declared.option.Option.the-variants.{None};
@@ -125,10 +125,13 @@ impl<I: Memory, D: Memory> Machine<I, D> {
             outcome: effect.outcome,
         })
     }
+
     /// One instruction: it retires, or the machine stops for good and changes no more.
     pub fn step(&mut self) -> Result<Retirement, Stop>
         ensures does { λ r. ⌜ Stepped (world-of (I·Memory .means .view) (D·Memory .means .view) (now (self .entry))) (state-of (D·Memory .means .view) (now (self .entry))) (now (self .entry) .stopped) r (state-of (D·Memory .means .view) (now (self .exit))) (now (self .exit) .stopped) ⌝ }
         ensures world { λ _. ⌜ world-of (I·Memory .means .view) (D·Memory .means .view) (now (self .exit)) ≡ world-of (I·Memory .means .view) (D·Memory .means .view) (now (self .entry)) ⌝ }
+        ensures aligned { λ _. ⌜ (now (self .entry) .address % 4 ≡ 0 → now (self .exit) .address % 4 ≡ 0) ⌝ }
+        ensures zero { λ _. ⌜ (getD (now (self .entry) .registers .values) 0 0 ≡ 0 → getD (now (self .exit) .registers .values) 0 0 ≡ 0) ⌝ }
     {
         if let Some(stop) = self.stopped {
             return Err(stop);

@@ -5,7 +5,7 @@ ghost use denote.Ref.{name};
 ghost use Prim.Native.Nat.{_<_};
 ghost use lib.ListN.{length};
 ghost use Rattle.base.specs.Logs.{records, room};
-ghost use Rattle.pipeline.specs.Calls.{ClockedInto, RanInto, logged};
+ghost use Rattle.pipeline.specs.Calls.{ClockedInto, Free, RanInto, logged};
 ghost use Rattle.pipeline.specs.Logged.{logs, Tested};
 use crate::cycle::cycle;
 use crate::machine::Machine;
@@ -74,6 +74,31 @@ impl<P: Predictor, I: Memory, D: Memory> Machine<P, I, D> {
         Ok(())
     }
 
+    /// Up to `n` clocks in a row, of which nothing refuses the first.
+    fn repeat(
+        &mut self,
+        n: u32,
+        retirements: &mut Log<RetiredAt>,
+        clocks: &mut Log<ClockRecord>,
+    ) -> Run
+        requires { ⌜ Free (logs (now retirements) (now clocks)) (now self) ⌝ }
+        ensures does { λ r. ⌜ RanInto (P·Predictor .table) (I·Memory .means) (D·Memory .means) (logs (now (retirements .entry)) (now (clocks .entry))) (now (self .entry)) n r (logs (now (retirements .exit)) (now (clocks .exit))) (now (self .exit)) ⌝ }
+        ensures rooms { λ _. ⌜ (room (now (retirements .exit)) ≡ room (now (retirements .entry))) × (room (now (clocks .exit)) ≡ room (now (clocks .entry))) ⌝ }
+        ensures lent { λ _. ⌜ (name (now (retirements .exit) .slots) ≡ name (now (retirements .entry) .slots)) × (name (now (clocks .exit) .slots) ≡ name (now (clocks .entry) .slots)) ⌝ }
+    {
+        let mut made = 0;
+        while made < n {
+            if let Err(why) = self.clock(retirements, clocks) {
+                return Run {
+                    made,
+                    why: Some(why),
+                };
+            }
+            made += 1;
+        }
+        Run { made, why: None }
+    }
+
     /// Up to `n` clocks in a row: how many were made, and the refusal of the next where they are fewer. The first test is
     /// made also where `n` is 0.
     pub fn run(
@@ -92,16 +117,6 @@ impl<P: Predictor, I: Memory, D: Memory> Machine<P, I, D> {
                 why: Some(first),
             };
         }
-        let mut made = 0;
-        while made < n {
-            if let Err(why) = self.clock(retirements, clocks) {
-                return Run {
-                    made,
-                    why: Some(why),
-                };
-            }
-            made += 1;
-        }
-        Run { made, why: None }
+        self.repeat(n, retirements, clocks)
     }
 }

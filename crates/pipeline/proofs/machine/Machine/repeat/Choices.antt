@@ -5,7 +5,7 @@ use Rattle.base.specs.Logs.{room}
 use Rattle.pipeline.specs.Calls.{Free}
 use Rattle.pipeline.specs.Logged.{logs}
 use Rattle.pipeline.proofs.Runs.{ClocksInto}
-use Rattle.pipeline.proofs.machine.Machine.run.Given as given
+use Rattle.pipeline.proofs.machine.Machine.repeat.Given as given
 
 abbrev pub Inv-loop-made : given.InvT-loop-made
 Inv-loop-made g l =

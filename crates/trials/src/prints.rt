@@ -3,10 +3,10 @@ use base::log::Log;
 use listing::image::ImageError;
 use listing::image::ImageErrorDebug;
 use listing::image::padded;
+use listing::program::sequence_of;
 use listing::sequence::sequence_text;
 use memory::Flat;
 use memory::FlatMemory;
-use memory::Memory;
 use memory::WaitStates;
 use memory::WaitStatesMemory;
 use sequential::machine::Machine;
@@ -27,23 +27,9 @@ pub fn bytes_of(heap: Global, words: &[u32]) -> Result<Vec<u8>, AllocError> {
     Ok(bytes)
 }
 
-/// What a run of at most 1000 instructions prints.
-fn print_of<I: Memory + Drop, D: Memory + Drop>(
-    heap: Global,
-    machine: Machine<I, D>,
-) -> Result<String, Fail> {
-    let mut machine = machine;
-    let mut slots = [Retired::EMPTY; 1000];
-    let mut log = Log::new(&mut slots);
-    let stop = machine.run(&mut log);
-    Ok(sequence_text(heap, log.records(), stop)?)
-}
-
-/// The lines after the first, for the program of these words with 4096 zero bytes of data.
+/// The lines after the first that are printed of these words.
 fn prints(heap: Global, words: &[u32], lines: &str) -> Result<(), Fail> {
-    let image = padded(bytes_of(heap, words)?)?;
-    let data = vec![in heap; 0u8; 4096]?;
-    let text = print_of(heap, Machine::new(0, Flat::new(image), Flat::new(data)))?;
+    let text = sequence_of(heap, bytes_of(heap, words)?)?;
     let expected = format!(heap, "retired address word rd value\n{lines}")?;
     check_eq(text.as_str(), expected.as_str())
 }
@@ -177,17 +163,30 @@ fn x0_is_never_written(rt: LibcRuntime) -> Result<(), Fail> {
     )
 }
 
-/// Memories that wait give the same print as those that do not.
+/// Memories that wait make the same records as those that do not; here there is room for two, and the third retires
+/// into another log.
 #[test]
 fn waiting_changes_nothing(rt: LibcRuntime) -> Result<(), Fail> {
     let heap = rt.alloc();
     let words = [0x0070_0093, 0x0010_2223, 0x0040_2103, 0x0000_0073];
-    let image = WaitStates::new(Flat::new(padded(bytes_of(heap, &words)?)?), 2);
+    let image = WaitStates::new(Flat::new(bytes_of(heap, &words)?), 2);
     let data = WaitStates::new(Flat::new(vec![in heap; 0u8; 16]?), 15);
-    let text = print_of(heap, Machine::new(0, image, data))?;
+    let mut machine = Machine::new(0, image, data);
+    let mut two = [Retired::EMPTY; 2];
+    let mut log = Log::new(&mut two);
+    check(machine.run(&mut log).is_none())?;
+    let text = sequence_text(heap, log.records(), None)?;
     check_eq(
         text.as_str(),
-        "retired address word rd value\n1 0 700093 1 7\n2 4 102223 - 0\n3 8 402103 2 7\nstop 11 c retired 3\n",
+        "retired address word rd value\n1 0 700093 1 7\n2 4 102223 - 0\nlimit retired 2\n",
+    )?;
+    let mut more = [Retired::EMPTY; 2];
+    let mut log = Log::new(&mut more);
+    let stop = machine.run(&mut log);
+    let text = sequence_text(heap, log.records(), stop)?;
+    check_eq(
+        text.as_str(),
+        "retired address word rd value\n1 8 402103 2 7\nstop 11 c retired 1\n",
     )
 }
 
@@ -208,7 +207,7 @@ fn sizes_of_images(rt: LibcRuntime) -> Result<(), Fail> {
         check_eq(image.len(), size)?;
         check_eq(image.get(given).copied().unwrap_or(0), 0)?;
     }
-    match padded(vec![in heap; 1u8; 65537]?) {
+    match sequence_of(heap, vec![in heap; 1u8; 65537]?) {
         Err(ImageError::Refused(why)) => check_eq(why.number(), 1),
         _ => Err(Fail::new("too large, and not refused")),
     }

@@ -1,6 +1,6 @@
 -- What the machines above use of the pieces of an instruction. Assumes nothing.
 use mathlib.Core.Path.{_≡_, refl, _∙_}
-use mathlib.Core.Bool.{Bool, true, false, cond, _&&_}
+use mathlib.Core.Bool.{Bool, true, false, cond}
 use Prim.Native.Nat.{ℕ, _/_, _*_, _%_, _<_}
 use lib.ListN.{getD}
 use lib.Seq.{getD-set-other}
@@ -24,7 +24,7 @@ use Rattle.rv32i.specs.declared.instruction.Instruction.{Instruction}
 use Rattle.rv32i.specs.declared.instruction.Instruction.the-variants.{Lui, Auipc, Jal, Jalr, Branch, Load, Store, Immediate, Shift, Register, Fence, Ecall, Ebreak}
 use Rattle.rv32i.specs.declared.register.Register.{Register as Reg}
 use Rattle.rv32i.specs.declared.registers.Registers.{Registers}
-use Rattle.rv32i.specs.Effects.{word-address, accepted, request, following, offset-from, holds, branches, executed, destination}
+use Rattle.rv32i.specs.Effects.{word-address, request, following, offset-from, holds, branches, executed, destination}
 use Rattle.rv32i.specs.Registers.{nonzero, written}
 
 -- a request is for a word of the memory

@@ -1,7 +1,7 @@
 -- Decoding undoes encoding, and encoding undoes decoding. Assumes nothing.
 use mathlib.Core.Path.{_≡_, refl, sym, _∙_, ap, subst}
 use mathlib.Core.Bool.{Bool, true, false, cond}
-use mathlib.Core.List.{List, [], _∷_}
+use mathlib.Core.List.{[], _∷_}
 use Prim.Native.Nat.{ℕ, _+_, _*_, _/_, _%_, _^_, _<_}
 use native.Mathlib.Omega.{arith}
 use lib.Dec.{ltb, eqb}
@@ -14,7 +14,7 @@ use Rattle.std.proofs.shelf.Ways.{tells}
 use Rattle.std.specs.declared.option.Option.{Option}
 use Rattle.std.specs.declared.option.Option.the-variants.{Some, None}
 use Rattle.std.specs.declared.result.Result.{Result}
-use Rattle.std.specs.declared.result.Result.the-variants.{Ok, Err}
+use Rattle.std.specs.declared.result.Result.the-variants.{Ok}
 use Rattle.base.specs.declared.refusal.Refusal.{Refusal}
 use Rattle.rv32i.specs.declared.register.Register.{Register as Reg}
 use Rattle.rv32i.specs.declared.instruction.Condition.{Condition}
@@ -30,7 +30,7 @@ use Rattle.rv32i.specs.declared.instruction.ShiftOp.the-variants.{Sll as SllIm
 use Rattle.rv32i.specs.declared.instruction.RegisterOp.{RegisterOp}
 use Rattle.rv32i.specs.declared.instruction.RegisterOp.the-variants.{Add, Sub, Sll, Slt, Sltu, Xor, Srl, Sra, Or, And}
 use Rattle.rv32i.specs.declared.instruction.Operation.{Operation}
-use Rattle.rv32i.specs.declared.instruction.Operation.the-variants.{Lui as ALui, Auipc as AnAuipc, Jal as AJal, Jalr as AJalr, Branch as ABranch, Load as ALoad, Store as AStore, Immediate as AnImmediate, Shift as AShift, Register as ARegister, Fence as AFence, Ecall as AnEcall, Ebreak as AnEbreak}
+use Rattle.rv32i.specs.declared.instruction.Operation.the-variants.{Lui as ALui, Auipc as AnAuipc, Jal as AJal, Jalr as AJalr, Branch as ABranch, Load as ALoad, Store as AStore, Immediate as AnImmediate, Shift as AShift, Register as ARegister}
 use Rattle.rv32i.specs.declared.instruction.Instruction.{Instruction}
 use Rattle.rv32i.specs.declared.instruction.Instruction.the-variants.{Lui, Auipc, Jal, Jalr, Branch, Load, Store, Immediate, Shift, Register, Fence, Ecall, Ebreak}
 use Rattle.rv32i.specs.Fields.{opcode-of, rd-of, funct3-of, rs1-of, rs2-of, funct7-of, word-of}

@@ -1,11 +1,11 @@
 -- What a memory answered is what the sequential machine's definition has. Assumes nothing.
 use mathlib.Core.Path.{_≡_, refl, sym, ap, subst, fun-ext}
-use mathlib.Core.Bool.{Bool, true, false, cond, _&&_}
-use Prim.Native.Nat.{ℕ, _%_, _<_}
+use mathlib.Core.Bool.{true, false}
+use Prim.Native.Nat.{ℕ, _%_}
 use lib.Dec.{eqb, ltb}
-use Rattle.std.proofs.shelf.Tests.{eq-eqb, ne-eqb, and-parts, and-cases, both-ways}
+use Rattle.std.proofs.shelf.Tests.{eq-eqb, ne-eqb, and-parts, both-ways}
 use Rattle.std.specs.declared.option.Option.{Option}
-use Rattle.std.specs.declared.option.Option.the-variants.{Some, None}
+use Rattle.std.specs.declared.option.Option.the-variants.{Some}
 use Rattle.std.specs.declared.result.Result.{Result}
 use Rattle.std.specs.declared.result.Result.the-variants.{Ok, Err}
 use Rattle.base.specs.Bytes.{within, word}
@@ -19,7 +19,7 @@ use Rattle.rv32i.specs.declared.cause.Cause.the-variants.{JumpMisaligned, Fetch
 use Rattle.rv32i.specs.declared.effect.Access.{Access}
 use Rattle.rv32i.specs.Effects.{request, loaded}
 use Rattle.rv32i.proofs.Laws.{InRange, in-range}
-use Rattle.sequential.specs.Sequential.{fetch, transferred}
+use Rattle.sequential.specs.Sequential.{fetch}
 use Rattle.sequential.specs.Stepping.{fetched, completed, Transferred}
 
 pub fetch-misaligned : (size : ℕ) (text : ℕ → ℕ) (a : ℕ) → (a % 4 ≡ 0 → ⊥) → Err JumpMisaligned ≡ fetch size text a

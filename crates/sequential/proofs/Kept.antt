@@ -1,5 +1,5 @@
 -- What every step keeps: an address that is a multiple of 4, and x0. Assumes nothing.
-use mathlib.Core.Path.{_≡_, refl}
+use mathlib.Core.Path.{_≡_}
 use Prim.Native.Nat.{ℕ, _%_}
 use lib.ListN.{getD}
 use Rattle.std.specs.declared.option.Option.{Option}

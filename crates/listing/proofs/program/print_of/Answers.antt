@@ -1,12 +1,11 @@
-use mathlib.Core.Path.{_≡_, refl, sym, _∙_, ap}
+use mathlib.Core.Path.{_≡_, _∙_, ap}
 use mathlib.Core.List.{List}
 use lib.ListN.{length, replicate}
 use Rattle.std.proofs.shelf.Results.{made-weaker}
 use Rattle.std.specs.Of.String.{string-bytes}
-use Rattle.std.specs.Of.Vec.{vec-items, vec-len}
+use Rattle.std.specs.Of.Vec.{vec-items}
 use Rattle.base.specs.Logs.{records}
 use Rattle.memory.specs.Flat.{flat-view}
-use Rattle.memory.specs.declared.flat.Flat.{Flat}
 use Rattle.sequential.specs.Stepping.{state-of}
 use Rattle.sequential.specs.declared.record.Retired.{Retired}
 use Rattle.listing.specs.Programs.{Printed}

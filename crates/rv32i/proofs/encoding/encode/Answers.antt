@@ -1,5 +1,3 @@
-use mathlib.Core.Path.{_≡_, sym, subst}
-use Rattle.rv32i.specs.Words.{Restored}
 use Rattle.rv32i.proofs.Round.{restored}
 use Rattle.rv32i.proofs.encoding.encode.Needs as need
 

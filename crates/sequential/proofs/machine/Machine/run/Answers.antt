@@ -1,15 +1,13 @@
-use mathlib.Core.Path.{_≡_, refl, sym, _∙_, subst}
+use mathlib.Core.Path.{_≡_, refl, _∙_, subst}
 use Prim.Native.Nat.{_-_, _<_}
 use mathlib.Core.List.{[], _∷_, _++_}
 use native.Mathlib.Omega.{arith}
 use lib.ListN.{length, length-append}
-use Rattle.std.specs.declared.option.Option.{Option}
 use Rattle.std.specs.declared.result.Result.the-variants.{Ok, Err}
 use Rattle.base.proofs.Pushed.{pushed}
 use Rattle.base.specs.Logs.{records, room}
 use Rattle.sequential.specs.Sequential.{World}
-use Rattle.sequential.specs.Stepping.{world-of, state-of, Stepped}
-use Rattle.sequential.specs.declared.record.Stop.{Stop}
+use Rattle.sequential.specs.Stepping.{state-of, Stepped}
 use Rattle.sequential.proofs.Running.{nothing, one-more, stops-at, full}
 use Rattle.sequential.proofs.machine.Machine.run.Needs as need
 

@@ -1,4 +1,6 @@
 //! Branch predictors: what any predictor is, and five of them. `docs/predictors.md` works a loop out for each.
+#![tactic(auto)]
+
 ghost use Rattle.std.specs.Prelude.{◌≡◌, ℕ, Bool, List, [], ◌∷◌};
 ghost use Rattle.base.specs.declared.branch.Outcome.{Outcome};
 

@@ -31,6 +31,7 @@ pub enum Access {
 
 impl Instruction {
     /// The first register that it reads; none for one that reads none, and for x0.
+    #[tactic(auto, unfolding(crate::specs::Effects::first_source))]
     pub fn first_source(self) -> Option<Register>
         ensures { result ≡ first_source self }
     {
@@ -52,6 +53,7 @@ impl Instruction {
     }
 
     /// The second register that it reads: only branches, stores and register arithmetic have one.
+    #[tactic(auto, unfolding(crate::specs::Effects::second_source))]
     pub fn second_source(self) -> Option<Register>
         ensures { result ≡ second_source self }
     {
@@ -73,6 +75,7 @@ impl Instruction {
     }
 
     /// The register that it writes, never x0.
+    #[tactic(auto, unfolding(crate::specs::Effects::destination))]
     pub fn destination(self) -> Option<Register>
         ensures { result ≡ destination self }
     {
@@ -94,6 +97,7 @@ impl Instruction {
     }
 
     /// How it uses the data memory, if it does.
+    #[tactic(auto, unfolding(crate::specs::Effects::access))]
     pub fn access(self) -> Option<Access>
         ensures { result ≡ access self }
     {
@@ -215,6 +219,7 @@ fn branches(address: u32, target: u32, taken: bool) -> Result<Effect, Cause>
 
 impl Instruction {
     /// What the instruction at an address comes to, with the operands that it read.
+    #[tactic(auto, unfolding(crate::specs::Effects::executed))]
     pub fn execute(self, address: u32, a: u32, b: u32) -> Result<Effect, Cause>
         ensures { result ≡ executed self address a b }
     {
@@ -237,7 +242,11 @@ impl Instruction {
                 let target = address.wrapping_add(offset.cast_unsigned());
                 branches(address, target, condition.holds(a, b))
             }
-            Instruction::Load { offset, .. } | Instruction::Store { offset, .. } => Ok(goes_on(
+            Instruction::Load { offset, .. } => Ok(goes_on(
+                address,
+                a.wrapping_add(offset.cast_unsigned()),
+            )),
+            Instruction::Store { offset, .. } => Ok(goes_on(
                 address,
                 a.wrapping_add(offset.cast_unsigned()),
             )),
@@ -308,6 +317,7 @@ fn store_width(kind: StoreKind) -> u32
 
 /// What an instruction asks of a data memory of that size, or why it may not; `address` is the result of its execution
 /// and `b` its second operand.
+#[tactic(auto, unfolding(crate::specs::Effects::request))]
 pub fn request(
     size: u32,
     access: Option<Access>,
@@ -359,6 +369,7 @@ fn extract(kind: LoadKind, bytes: u32) -> u32
 }
 
 /// What a load makes of the word that it is answered; all else keeps its result.
+#[tactic(auto, unfolding(crate::specs::Effects::loaded))]
 pub fn loaded(access: Option<Access>, res: u32, word: u32) -> u32
     ensures { result ≡ loaded access res word }
 {

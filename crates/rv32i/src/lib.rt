@@ -1,4 +1,6 @@
 //! The forty instructions of RV32I, and what each does, in the pieces that a machine composes.
+#![tactic(auto)]
+
 pub mod bytewise;
 pub mod cause;
 pub mod effect;

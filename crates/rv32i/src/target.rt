@@ -17,6 +17,7 @@ pub enum Target {
 
 impl Instruction {
     /// Where the instruction at an address may lead.
+    #[tactic(auto, unfolding(crate::specs::Targets::target_of))]
     pub fn target(self, address: u32) -> Target
         ensures { result ≡ target_of self address }
     {

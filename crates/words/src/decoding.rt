@@ -327,6 +327,7 @@ pub fn decode(word: u32) -> Option<Instruction>
 }
 
 /// The instruction that a word issues, or why it issues none: an illegal word, `ebreak` and `ecall` stop the machine.
+#[tactic(auto, unfolding(crate::specs::Issues::issued))]
 pub fn issue(word: u32) -> Result<Instruction, Cause>
     ensures { result ≡ issued word }
 {

@@ -1,4 +1,6 @@
 //! The words of the forty instructions: decoding, encoding, and what a word issues.
+#![tactic(auto)]
+
 pub mod decoding;
 pub mod encoding;
 mod fields;

@@ -11,8 +11,8 @@ pub returns-in-Some : goal.returns-in-Some
 returns-in-Some c =
     let w = c.args.word in
     let h = c.ranges.word.fits in
-    let e : Some c.take-apart.result ≡ decoded w = ap (λ (x : Instruction). Some x) c.take-apart.ensures ∙ decoded_from w h (Some c.in-Some.operation) c.in-Some.ensures in
-    record { is = e; undone = undone_at w (Some c.take-apart.result) h e }
+    let e : Some c.take_apart.result ≡ decoded w = ap (λ (x : Instruction). Some x) c.take_apart.ensures ∙ decoded_from w h (Some c.in-Some.operation) c.in-Some.ensures in
+    record { is = e; undone = undone_at w (Some c.take_apart.result) h e }
 
 pub returns-in-None : goal.returns-in-None
 returns-in-None c = record { is = decoded_from c.args.word c.ranges.word.fits None c.in-None.ensures; undone = tt }

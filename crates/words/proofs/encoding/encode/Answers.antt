@@ -3,6 +3,6 @@ use Rattle.words.proofs.encoding.encode.Goals as goal
 
 pub returns : goal.returns
 returns c = record {
-  is = c.word-for.ensures;
-  restored = rw c.word-for.ensures (restored c.args.instruction);
+  is = c.word_for.ensures;
+  restored = rw c.word_for.ensures (restored c.args.instruction);
 }

@@ -7,5 +7,5 @@ within zero value k h = zero-le
 within (suc n) value zero h = h
 within (suc n) value (suc k) h = within n value k h
 
-pub invariant-of-result : goal.invariant-of-result
-invariant-of-result c = (λ k. within 256 _ k (lit≤ tt), tt)
+pub invariant_of-result : goal.invariant_of-result
+invariant_of-result c = record { range = λ k. within 256 _ k (lit≤ tt) }

@@ -1,4 +1,6 @@
 //! Instructions as the manual writes them, so that a word stands beside its line of assembly.
+#![tactic(auto)]
+
 use rv32i::instruction::{
     Condition, ImmediateOp, Instruction, LoadKind, RegisterOp, ShiftOp, StoreKind,
 };

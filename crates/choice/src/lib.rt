@@ -1,4 +1,6 @@
 //! The memories and the predictor of a run, chosen at run time.
+#![tactic(auto)]
+
 pub mod boxed;
 pub mod layer;
 pub mod predictor;

@@ -1,5 +1,7 @@
 //! The rule of the pipeline's clock: what stands between the stages, what each stage makes of it, and why the whole agrees with
 //! the sequential machine.
+#![tactic(auto)]
+
 pub mod core;
 pub mod counts;
 pub mod latch;

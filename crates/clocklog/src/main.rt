@@ -1,4 +1,6 @@
 //! Reads an image from standard input, clocks it through the pipeline and prints what retired, the clocks and the counts.
+#![tactic(auto)]
+
 use listing::image::ImageError;
 use report::clocklog::clocks_of;
 use std::alloc::AllocError;

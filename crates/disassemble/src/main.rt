@@ -1,4 +1,6 @@
 //! Reads words from standard input and prints the line of assembly of each.
+#![tactic(auto)]
+
 use std::io;
 use words::disassemble_all;
 

@@ -1,4 +1,6 @@
 //! What the programs print of records, stops and words, as text whose bytes are known.
+#![tactic(auto)]
+
 pub mod hex;
 pub mod image;
 pub mod program;

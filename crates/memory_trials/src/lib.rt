@@ -1,4 +1,6 @@
 //! Stacks of memories, tried call by call against counts that were worked out by hand.
+#![tactic(auto)]
+
 #[cfg(test)]
 mod tests {
     use Step::{Idle, Misses, Reads, Told, Writes};

@@ -1,4 +1,6 @@
 //! What a clock asks of the memories and the predictor, and what it counts and tells.
+#![tactic(auto)]
+
 pub mod asking;
 pub mod counting;
 pub mod telling;

@@ -1,4 +1,6 @@
 //! Reads images from standard input, runs each on the machines and prints what they did.
+#![tactic(auto)]
+
 use images::replay_all;
 use std::io;
 

@@ -1,4 +1,6 @@
 //! What is printed of a run of the pipeline, from the input to the last line.
+#![tactic(auto)]
+
 pub mod clocklog;
 pub mod lines;
 pub mod timing;

@@ -1,4 +1,6 @@
 //! Reads an image from standard input, runs it on the sequential machine and prints what retired.
+#![tactic(auto)]
+
 use listing::image::ImageError;
 use listing::program::sequence_of;
 use std::alloc::AllocError;

@@ -1,4 +1,6 @@
 //! What each stage of a clock makes of what stands before it.
+#![tactic(auto)]
+
 pub mod data;
 pub mod decode;
 pub mod execute;

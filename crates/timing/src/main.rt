@@ -1,5 +1,7 @@
 //! Runs an image from standard input on a machine of the chosen parts, and prints the longest wait that there was and the
 //! longest that there can be.
+#![tactic(auto)]
+
 use anyhow::anyhow;
 use base::refusal::Refusal;
 use longrun::run::Watch;

@@ -1,3 +1,5 @@
 //! Trials of what timing prints.
+#![tactic(auto)]
+
 #[cfg(test)]
 mod tests;

@@ -1,5 +1,7 @@
 //! Trials of the instruction words, the sequential machine, the pipeline and their prints, against what the manual and the rules
 //! give by hand.
+#![tactic(auto)]
+
 #[cfg(test)]
 mod calls;
 #[cfg(test)]

@@ -1,4 +1,6 @@
 //! Wait states: a layer that says Wait a set number of times before it passes a request down.
+#![tactic(auto)]
+
 ghost use Rattle.std.specs.Prelude.{◌≡◌, ◌+◌, if◌then◌else◌, nat_lt};
 ghost use Rattle.wait_states.specs.declared.Counting.TheVariants.{Nothing, Waiting};
 ghost use Rattle.memory.specs.Meaning.{Checked};

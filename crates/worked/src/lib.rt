@@ -1,4 +1,6 @@
 //! The worked examples of the documents, as one table.
+#![tactic(auto)]
+
 ghost use Rattle.std.specs.Prelude.{◌≡◌};
 ghost use Rattle.predictor.specs.Counting.{value_at, number_of};
 ghost use Rattle.worked.specs.Examples.{TableGiven, instructions, counts, longest, counts_at, taken_at};

@@ -1,4 +1,6 @@
 //! A write buffer: a layer that accepts writes at once and sends them below when it can.
+#![tactic(auto)]
+
 ghost use Rattle.std.specs.Prelude.{◌≡◌, []};
 ghost use Rattle.write_buffer.specs.Held.{pending};
 ghost use Rattle.memory.specs.Meaning.{Checked};

@@ -10,6 +10,6 @@ returns c =
     record {
       given = table_given;
       instructions = cc words_given;
-      counts = c.taken-thrice.ensures ∙ counter_given c.args.address;
+      counts = c.taken_thrice.ensures ∙ counter_given c.args.address;
       longest = c.longest.ensures ∙ stack_given c.new-stack.result states;
     }

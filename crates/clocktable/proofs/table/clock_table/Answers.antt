@@ -6,4 +6,4 @@ use Rattle.clocktable.proofs.table.clock_table.Goals as goal
 pub returns : goal.returns
 unfolding clock_table
 returns c =
-    pushed _ _ _ _ _ c.in-ok-text.ensures (c.as-str.ensures.value ∙ c.in-ok-end.ensures) c.in-ok-push-str.ensures.bytes
+    pushed _ _ _ _ _ c.in_ok-text.ensures (c.as_str.ensures.value ∙ c.in_ok-end.ensures) c.in_ok-push_str.ensures.bytes

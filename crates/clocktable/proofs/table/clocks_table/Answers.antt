@@ -6,13 +6,13 @@ use Rattle.clocktable.proofs.table.clocks_table.Goals as goal
 
 pub loop-record-init : goal.loop-record-init
 unfolding clock_head
-loop-record-init c = lines_begin clock_line clock_head c.args.clocks.now _ c.in-ok-text.ensures.ok
+loop-record-init c = lines_begin clock_line clock_head c.args.clocks.now _ c.in_ok-text.ensures.ok
 
 pub loop-record-preserved : goal.loop-record-preserved
 loop-record-preserved c =
     lines_again clock_line clock_head c.args.clocks.now c.loop-record.record-index _ _ _ _ c.loop-record-test.true
     (get_or_default c.args.clocks.now c.loop-record.record-index _ _ c.loop-record-test.true) c.loop-record.invariant
-    (c.as-str.ensures.value ∙ c.in-ok-line.ensures) c.in-ok-push-str.ensures.bytes
+    (c.as_str.ensures.value ∙ c.in_ok-line.ensures) c.in_ok-push_str.ensures.bytes
 
 pub returns : goal.returns
 returns c = lines_end clock_line clock_head c.args.clocks.now c.loop-record.record-index _ c.loop-record-test.false c.loop-record.invariant

@@ -6,4 +6,4 @@ use Rattle.clocktable.proofs.table.tables.Goals as goal
 pub returns : goal.returns
 unfolding two_tables
 returns c =
-    pushed _ _ _ _ _ c.in-ok-text.ensures (c.as-str.ensures.value ∙ c.in-ok-table.ensures) c.in-ok-push-str.ensures.bytes
+    pushed _ _ _ _ _ c.in_ok-text.ensures (c.as_str.ensures.value ∙ c.in_ok-table.ensures) c.in_ok-push_str.ensures.bytes

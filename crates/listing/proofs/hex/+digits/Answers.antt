@@ -12,11 +12,11 @@ pub returns-then-n-lt16 : goal.returns-then-n-lt16
 returns-then-n-lt16 g t c = λ plain ok.
     has_written_of_eq g.W.Write.write_str_gives _ _ _ _
     (one_digit c.args.most c.args.n c.digit.result c.if-most-eq0.false c.if-n-lt16.true c.digit.ensures.is c.digit.ensures.ascii)
-    (c.write-char.ensures.writes plain ok)
+    (c.write_char.ensures.writes plain ok)
 
 pub returns : goal.returns
 returns g t c = λ plain ok.
-    let front = c.in-ok-digits.ensures plain refl in
+    let front = c.in_ok-digits.ensures plain refl in
     has_written_of_eq g.W.Write.write_str_gives _ _ _ _
     (more_digits c.args.most c.args.n c.digit-2.result c.if-most-eq0.false c.if-n-lt16.false c.digit-2.ensures.is c.digit-2.ensures.ascii)
-    (has_written_append g.W.Write.write_str_gives _ _ _ _ _ front (c.write-char-2.ensures.writes front.plain ok))
+    (has_written_append g.W.Write.write_str_gives _ _ _ _ _ front (c.write_char-2.ensures.writes front.plain ok))

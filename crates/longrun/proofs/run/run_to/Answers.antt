@@ -43,6 +43,6 @@ loop-clocks-preserved g c =
       t.counted,
       (λ _. t.not_beyond),
       held_on g.P.Predictor.table g.I.Memory.means g.D.Memory.means _ _ c.loop-clocks.machine c.min-n.result c.stretch.result s.0 c.stretch.new.machine s.1 ∙ inv.3,
-      c.stretch.auto.retired-slots ∙ inv.4,
-      c.stretch.auto.clock-slots ∙ inv.5,
+      c.stretch.auto.retired_slots ∙ inv.4,
+      c.stretch.auto.clock_slots ∙ inv.5,
     )

@@ -8,8 +8,8 @@ invariant-loop-clocks g l =
     × (l.clocks ≡ l.machine.core.counts.clocks)
     × (l.initial.machine.core.counts.clocks ≤ l.limit → l.clocks ≤ l.limit)
     × (l.machine.held ≡ l.initial.machine.held)
-    × (length l.retired-slots ≡ 256)
-    × (length l.clock-slots ≡ 256)
+    × (length l.retired_slots ≡ 256)
+    × (length l.clock_slots ≡ 256)
 
 abbrev pub decreases-loop-clocks : goal.decreases-loop-clocks
 decreases-loop-clocks g l = l.limit - l.clocks

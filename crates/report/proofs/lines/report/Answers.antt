@@ -12,7 +12,7 @@ returns c =
     pushed _ _ _ _ _
     (pushed _ _ _ _ _
     (pushed _ _ _ _ _
-    (pushed _ _ _ _ _ c.in-ok-text.ensures (c.as-str.ensures.value ∙ c.in-ok-bounds.ensures ∙ both _ _ _ _ c.within.ensures c.within-2.ensures) c.in-ok-push-str.ensures.bytes)
-    (c.as-str-2.ensures.value ∙ c.in-ok-totals.ensures) c.in-ok-push-str-2.ensures.bytes)
-    (c.as-str-3.ensures.value ∙ c.in-ok-gap.ensures) c.in-ok-push-str-3.ensures.bytes)
-    (c.as-str-4.ensures.value ∙ c.in-ok-last.ensures) c.in-ok-push-str-4.ensures.bytes
+    (pushed _ _ _ _ _ c.in_ok-text.ensures (c.as_str.ensures.value ∙ c.in_ok-bounds.ensures ∙ both _ _ _ _ c.within.ensures c.within-2.ensures) c.in_ok-push_str.ensures.bytes)
+    (c.as_str-2.ensures.value ∙ c.in_ok-totals.ensures) c.in_ok-push_str-2.ensures.bytes)
+    (c.as_str-3.ensures.value ∙ c.in_ok-gap.ensures) c.in_ok-push_str-3.ensures.bytes)
+    (c.as_str-4.ensures.value ∙ c.in_ok-last.ensures) c.in_ok-push_str-4.ensures.bytes

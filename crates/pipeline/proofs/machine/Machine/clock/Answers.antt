@@ -5,7 +5,7 @@ pub returns : goal.returns
 returns g c = record {
   does = (
     c.in-Some-cycle.event ∷ [],
-    (c.in-default.ensures, (c.in-Some-cycle.event, refl, record { same_serial = refl; same_held = refl; cycled = c.in-Some-cycle.ensures.2 })),
+    (c.in_default.ensures, (c.in-Some-cycle.event, refl, record { same_serial = refl; same_held = refl; cycled = c.in-Some-cycle.ensures.2 })),
     c.record.ensures.adds,
   );
   rooms = c.record.ensures.rooms;

@@ -9,7 +9,7 @@ pub loop-made-preserved : goal.loop-made-preserved
 loop-made-preserved g c =
     let inv = c.loop-made.invariant in
     let made = c.clock.ensures in (
-      one_more inv.0 c.in-default.ensures.does,
+      one_more inv.0 c.in_default.ensures.does,
       (λ z. absurd (omega arith)),
       (made.rooms.0 ∙ inv.2.0, made.rooms.1 ∙ inv.2.1),
       (made.lent.0 ∙ inv.3.0, made.lent.1 ∙ inv.3.1),

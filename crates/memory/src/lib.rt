@@ -1,4 +1,6 @@
 //! Memories: what any memory is, and the flat one that stands at the bottom of a stack.
+#![tactic(auto)]
+
 ghost use Rattle.std.specs.Prelude.{◌≡◌, ◌≤◌};
 ghost use Rattle.base.specs.Bytes.{within};
 ghost use Rattle.base.specs.declared.bus.Request.TheVariants.{Read, Write};

@@ -24,7 +24,7 @@ fn digit(n: u32) -> char
 
 /// The last digits of a number, at most so many.
 fn digits<W: fmt::Write>(f: &mut fmt::Formatter<W>, n: u32, most: u32) -> fmt::Result
-    ensures { WritesOnOk write_str_gives f.old result (hex most n) f.new }
+    ensures { WritesOnOk W.write_str_gives f.old result (hex most n) f.new }
 {
     if most == 0 {
         return Ok(());

@@ -1,5 +1,5 @@
 //! What a clock asks of the memories and of the predictor.
-ghost use Rattle.core.specs.Prelude.{◌≡◌};
+ghost use Rattle.std.specs.Prelude.{◌≡◌};
 ghost use Rattle.clocking.specs.Ports.{Asked, Taught, guess_after, arrival};
 
 use base::branch::Outcome;

@@ -1,5 +1,5 @@
 //! What a clock counts.
-ghost use Rattle.core.specs.Prelude.{◌≡◌, ◌≤◌};
+ghost use Rattle.std.specs.Prelude.{◌≡◌, ◌≤◌};
 ghost use Rattle.clocking.specs.Counting.{occupied, in_flight_count, has_fetched, if_rolled, dropped};
 
 use clocking::latch::{Fetched, Latch, Latches};

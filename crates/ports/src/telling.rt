@@ -1,5 +1,5 @@
 //! What a clock tells of itself.
-ghost use Rattle.core.specs.Prelude.{◌≡◌, ℕ, false, ◌&&◌};
+ghost use Rattle.std.specs.Prelude.{◌≡◌, ℕ, false, ◌&&◌};
 ghost use Rattle.clocking.specs.Clock.{address_of, clock_record};
 ghost use Rattle.clocking.specs.Counting.{stays, moves, rolls_back, is_wait};
 

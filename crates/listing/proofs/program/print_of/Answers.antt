@@ -17,7 +17,7 @@ returns c =
     let items : vec_items m.image.bytes ≡ vec_items c.args.image = rw (made.memories.0, c.new.ensures.bytes) in
     let size : m.image.size ≡ length (vec_items c.args.image) = rw (made.memories.0, c.new.ensures.size, c.requires) c.args.image.ok.0 in
     let room : m.«data».size ≡ 4096 = rw (made.memories.1, c.new-2.ensures.size, c.in_ok-data.ensures.len) in
-    let zeros : vec_items m.«data».bytes ≡ replicate 4096 0 = rw (made.memories.1, c.new-2.ensures.bytes) (c.in_ok-data.ensures.items-if-clones-equal (λ y e. e)) in
+    let zeros : vec_items m.«data».bytes ≡ replicate 4096 0 = rw (made.memories.1, c.new-2.ensures.bytes) (c.in_ok-data.ensures.items_if_clones_equal (λ y e. e)) in
     IfOk-weaker c.sequence_text.result (λ t. string_bytes t ≡ sequence_text c.records.result.now stop)
     (λ t. Printed (vec_items c.args.image) (string_bytes t))
     (λ t e. record {

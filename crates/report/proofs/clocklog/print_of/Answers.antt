@@ -20,7 +20,7 @@ returns c =
     let whole = whole_run (λ _. never) flat_means flat_means 1000 _ _ c.load-machine.result c.run.new.self c.run.result (records c.run.new.retirements) (records c.run.new.clocks) (lit≤ tt) fresh c.run.ensures.does refl refl in
     let size : c.new.result.size ≡ length (vec_items c.args.image) = rw (c.new.ensures.size, c.requires) c.args.image.ok.0 in
     let room : c.new-2.result.size ≡ 4096 = rw (c.new-2.ensures.size, c.in_ok-data.ensures.len) in
-    let zeros : vec_items c.new-2.result.bytes ≡ replicate 4096 0 = rw c.new-2.ensures.bytes (c.in_ok-data.ensures.items-if-clones-equal (λ y e. e)) in
+    let zeros : vec_items c.new-2.result.bytes ≡ replicate 4096 0 = rw c.new-2.ensures.bytes (c.in_ok-data.ensures.items_if_clones_equal (λ y e. e)) in
     IfOk-weaker c.clock_table.result (λ t. string_bytes t ≡ clock_table c.records.result.now c.records-2.result.now c.stopped.result c.counts.result)
     (λ t. ClockPrinted (vec_items c.args.image) (string_bytes t))
     (λ t e. record {

@@ -1,25 +1,22 @@
 -- Every clock keeps the agreement with the sequential machine. Assumes nothing.
-use Rattle.std.proofs.Common.{◌≡◌, ℕ, ◌+◌, ◌-◌, ◌%◌, ◌^◌, ◌<◌, ◌≤◌, Bool, true, false, cond, ◌||◌, List, [], ◌∷◌, ◌++◌, length, is_some, Some, None, Ok, Err, Option, Result, sym, refl, ap, ◌∙◌, subst, append-nil, arith}
+use Rattle.std.proofs.Common.{◌≡◌, ℕ, ◌+◌, ◌-◌, ◌<◌, ◌≤◌, Bool, true, false, cond, ◌||◌, List, [], ◌∷◌, ◌++◌, length, is_some, Some, None, Ok, Err, Option, sym, refl, ap, ◌∙◌, subst, append-nil, arith}
 use mathlib.Core.Path.{fun_ext}
 use Rattle.base.specs.declared.bus.Request.{Request}
-use Rattle.base.specs.declared.bus.Request.TheVariants.{Read, Write}
 use Rattle.memory.specs.Meaning.{Meaning, Lawful}
 use Rattle.memory.specs.declared.Reply.{Reply}
 use Rattle.memory.specs.declared.Reply.TheVariants.{Word, Done, Wait, Outside}
-use Rattle.rv32i.specs.declared.cause.Cause.{Cause}
 use Rattle.rv32i.specs.declared.registers.Registers.{Registers}
 use Rattle.sequential.specs.Runs.{Steps, none, more}
-use Rattle.sequential.specs.Sequential.{State, World, Step, step}
+use Rattle.sequential.specs.Sequential.{State, World}
 use Rattle.sequential.specs.declared.record.Retirement.{Retirement}
 use Rattle.sequential.specs.declared.record.Stop.{Stop}
-use Rattle.clocking.specs.Agreement.{listed, retirements, outcomes, retires, productive, world_of, state_of, StopsSo, BytesSo, stopped_count, longest_waits, Sequentially, InTime, Accounted, Agreement}
+use Rattle.clocking.specs.Agreement.{listed, retirements, productive, world_of, state_of, StopsSo, BytesSo, Accounted, Agreement}
 use Rattle.clocking.specs.Clock.{stop_of, retirement_of, outcome_of, written_back, completes, executes, plans, latches_after, Moved, Halted, Worked, Cycled}
 use Rattle.clocking.specs.Counting.{in_flight_count, occupied, has_fetched, dropped, one_if, Counted}
-use Rattle.clocking.specs.Ports.{Table, Asked, Taught, arrival}
+use Rattle.clocking.specs.Ports.{Table, Taught, arrival}
 use Rattle.clocking.specs.Stages.{data_request, sent, fetch_request}
 use Rattle.clocking.specs.declared.core.Core.{Core}
 use Rattle.clocking.specs.declared.core.Event.{Event}
-use Rattle.clocking.specs.declared.counts.Counts.{Counts}
 use Rattle.clocking.specs.declared.latch.Completed.{Completed}
 use Rattle.clocking.specs.declared.latch.Fetched.{Fetched}
 use Rattle.clocking.specs.declared.latch.Latch.{Latch}
@@ -35,7 +32,7 @@ use Rattle.clocking.proofs.Fetch.{Arrives}
 use Rattle.clocking.proofs.Forward.{Pairs, pairs}
 use Rattle.clocking.proofs.Histories.{retirements_more, length_more, retired_more, taught_more}
 use Rattle.clocking.proofs.Keeps.{Retires, clock_keeps}
-use Rattle.clocking.proofs.Link.{Link, link, Worn}
+use Rattle.clocking.proofs.Link.{link, Worn}
 use Rattle.clocking.proofs.Pace.{left, Paced, paced_more, left_more, soon, soon_after, retires_productive}
 use Rattle.clocking.proofs.Partial.{completed_at, after_at, retires_as, step_completes, step_stops}
 use Rattle.clocking.proofs.Served.{Bytes}

@@ -1,20 +1,19 @@
 -- What is fetched has retired, was dropped or stands in a latch. Assumes nothing.
-use Rattle.std.proofs.Common.{◌≡◌, ℕ, ◌+◌, ◌≤◌, Bool, true, false, cond, eqb, is_some, Some, None, Ok, Err, Option, Result, refl, arith}
+use Rattle.std.proofs.Common.{◌≡◌, ℕ, ◌+◌, ◌≤◌, Bool, true, false, eqb, Some, None, Ok, Err, Option, Result, refl, arith}
 use Rattle.base.specs.declared.bus.Request.{Request}
 use Rattle.memory.specs.declared.Reply.{Reply}
 use Rattle.memory.specs.declared.Reply.TheVariants.{Word, Done, Wait, Outside}
-use Rattle.rv32i.specs.Effects.{request, first_source, second_source}
+use Rattle.rv32i.specs.Effects.{first_source, second_source}
 use Rattle.rv32i.specs.declared.cause.Cause.{Cause}
 use Rattle.rv32i.specs.declared.instruction.Instruction.{Instruction}
 use Rattle.rv32i.specs.declared.register.Register.{Register}
 use Rattle.rv32i.specs.declared.registers.Registers.{Registers}
-use Rattle.clocking.specs.Clock.{retirement_of, completes, executes, reads, decodes, plans, fetches, latches_after}
+use Rattle.clocking.specs.Clock.{completes, executes, reads, decodes, plans, latches_after}
 use Rattle.clocking.specs.Counting.{occupied, in_flight_count, has_fetched, if_rolled, dropped, one_if}
-use Rattle.clocking.specs.Stages.{data_request, told, data_stage, execute, turned, checked, execute_stage, source, with_operands, decode_word, decode_moves, decode_stays, decode_stage, fetching, fetches_on, fetch_stage}
+use Rattle.clocking.specs.Stages.{data_request, told, data_stage, execute, turned, checked, execute_stage, source, with_operands, decode_word, decode_stage, fetching, fetches_on, fetch_stage}
 use Rattle.clocking.specs.declared.latch.Fetched.{Fetched}
 use Rattle.clocking.specs.declared.latch.Decoded.{Decoded}
 use Rattle.clocking.specs.declared.latch.Executed.{Executed}
-use Rattle.clocking.specs.declared.latch.Completed.{Completed}
 use Rattle.clocking.specs.declared.latch.Latch.{Latch}
 use Rattle.clocking.specs.declared.latch.Latch.TheVariants.{Empty, Faulting, Full}
 use Rattle.clocking.specs.declared.latch.Latches.{Latches}
@@ -22,10 +21,8 @@ use Rattle.clocking.specs.declared.stage.Flow.{Flow}
 use Rattle.clocking.specs.declared.stage.Flow.TheVariants.{Moves, Stays, RollsBack}
 use Rattle.clocking.specs.declared.stage.Operand.{Operand}
 use Rattle.clocking.specs.declared.stage.Operand.TheVariants.{Value, Hazard}
-use Rattle.clocking.specs.declared.stage.DataOut.{DataOut}
 use Rattle.clocking.specs.declared.stage.DecodeOut.{DecodeOut}
 use Rattle.clocking.specs.declared.stage.ExecuteOut.{ExecuteOut}
-use Rattle.clocking.specs.declared.stage.FetchOut.{FetchOut}
 use Rattle.clocking.specs.declared.stage.Fetching.{Fetching}
 use Rattle.clocking.specs.declared.stage.Fetching.TheVariants.{Idle, Fault, Ask}
 

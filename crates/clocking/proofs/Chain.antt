@@ -1,5 +1,5 @@
 -- How the latches stand to the sequential machine: along its run, oldest latch first, until the chain breaks. Assumes nothing.
-use Rattle.std.proofs.Common.{◌≡◌, ℕ, Bool, true, false, cond, eqb, length, Ok, Err, Result}
+use Rattle.std.proofs.Common.{◌≡◌, ℕ, cond, eqb, length, Ok, Err, Result}
 use Rattle.rv32i.specs.declared.cause.Cause.{Cause}
 use Rattle.rv32i.specs.declared.cause.Cause.TheVariants.{FetchOutside}
 use Rattle.rv32i.specs.declared.registers.Registers.{Registers}

@@ -1,21 +1,18 @@
 -- A number that every clock without a retirement or a stop lowers. Assumes nothing.
-use Rattle.std.proofs.Common.{◌≡◌, ℕ, ◌+◌, ◌%◌, ◌<◌, ◌≤◌, Bool, true, false, cond, eqb, ltb, ◌⊎◌, Some, None, Ok, Err, Option, Result, sym, refl, ap, ◌∙◌, subst, inl, inr, arith}
-use Rattle.base.specs.Bytes.{within, word, put}
+use Rattle.std.proofs.Common.{◌≡◌, ℕ, ◌+◌, ◌%◌, ◌<◌, ◌≤◌, Bool, true, false, cond, eqb, ltb, ◌⊎◌, Some, None, Ok, Err, Option, Result, refl, inl, inr, arith}
 use Rattle.base.specs.declared.bus.Request.{Request}
-use Rattle.base.specs.declared.bus.Request.TheVariants.{Read, Write}
+use Rattle.base.specs.declared.bus.Request.TheVariants.{Read}
 use Rattle.memory.specs.declared.Reply.{Reply}
 use Rattle.memory.specs.declared.Reply.TheVariants.{Word, Done as Did, Wait, Outside}
 use Rattle.rv32i.specs.declared.cause.Cause.{Cause}
 use Rattle.rv32i.specs.declared.register.Register.{Register}
-use Rattle.sequential.specs.Sequential.{State, World, then}
 use Rattle.clocking.specs.declared.latch.Fetched.{Fetched}
 use Rattle.clocking.specs.declared.latch.Decoded.{Decoded}
 use Rattle.clocking.specs.declared.latch.Executed.{Executed}
 use Rattle.clocking.specs.declared.latch.Completed.{Completed}
 use Rattle.clocking.specs.declared.latch.Latch.{Latch}
 use Rattle.clocking.specs.declared.latch.Latch.TheVariants.{Empty, Faulting, Full}
-use Rattle.clocking.specs.declared.stage.Flow.{Flow}
-use Rattle.clocking.specs.declared.stage.Flow.TheVariants.{Moves, Stays, RollsBack}
+use Rattle.clocking.specs.declared.stage.Flow.TheVariants.{Moves}
 use Rattle.clocking.specs.declared.stage.Operand.{Operand}
 use Rattle.clocking.specs.declared.stage.Operand.TheVariants.{Value, Hazard}
 use Rattle.std.proofs.lemmas.Bool.{both_ways, and_from}
@@ -23,16 +20,15 @@ use Rattle.rv32i.specs.Effects.{request, loaded, first_source, second_source}
 use Rattle.rv32i.specs.declared.cause.Cause.TheVariants.{JumpMisaligned, FetchOutside}
 use Rattle.rv32i.specs.declared.instruction.Instruction.{Instruction}
 use Rattle.rv32i.specs.declared.registers.Registers.{Registers}
-use Rattle.clocking.specs.Clock.{completes, executes, reads, decodes, plans, fetches, latches_after}
+use Rattle.clocking.specs.Clock.{plans, latches_after}
 use Rattle.clocking.specs.Ports.{Table, arrival}
-use Rattle.clocking.specs.Stages.{data_request, sent, complete, told, execute, turned, checked, execute_stage, gives, or_else, from_w, value_of, values_in_flight, source, with_operands, decode_word, decode_stage, x_result, fetching, fetch_request, fetches_on, fetch_stage}
+use Rattle.clocking.specs.Stages.{data_request, sent, complete, told, execute, turned, checked, execute_stage, gives, or_else, value_of, values_in_flight, source, with_operands, decode_word, decode_stage, x_result, fetching, fetch_request, fetches_on, fetch_stage}
 use Rattle.clocking.specs.declared.latch.Latches.{Latches}
 use Rattle.clocking.specs.declared.stage.DataOut.{DataOut}
 use Rattle.clocking.specs.declared.stage.DecodeOut.{DecodeOut}
 use Rattle.clocking.specs.declared.stage.ExecuteOut.{ExecuteOut}
 use Rattle.clocking.specs.declared.stage.FetchOut.{FetchOut}
-use Rattle.clocking.specs.declared.stage.Fetching.{Fetching}
-use Rattle.clocking.specs.declared.stage.Fetching.TheVariants.{Idle, Fault, Ask}
+use Rattle.clocking.specs.declared.stage.Fetching.TheVariants.{Fault, Ask}
 use Rattle.clocking.proofs.Link.{waits_for, Worn}
 use Rattle.clocking.proofs.Chain.{Flows}
 use Rattle.clocking.proofs.Served.{Bytes}

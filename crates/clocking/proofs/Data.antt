@@ -1,6 +1,5 @@
 -- The data stage keeps the chain. Assumes nothing.
-use Rattle.std.proofs.Common.{◌≡◌, ℕ, ◌%◌, Bool, true, false, cond, eqb, ltb, Some, None, Ok, Err, Option, Result, sym, refl, ap, ◌∙◌, subst}
-use Rattle.base.specs.Bytes.{within, word, put}
+use Rattle.std.proofs.Common.{◌≡◌, ℕ, Some, None, Ok, Err, Option, Result, sym, refl, ap, ◌∙◌, subst}
 use Rattle.base.specs.declared.bus.Request.{Request}
 use Rattle.base.specs.declared.bus.Request.TheVariants.{Read, Write}
 use Rattle.memory.specs.declared.Reply.{Reply}
@@ -8,10 +7,7 @@ use Rattle.memory.specs.declared.Reply.TheVariants.{Word, Done as Did, Wait, Out
 use Rattle.rv32i.specs.declared.cause.Cause.{Cause}
 use Rattle.rv32i.specs.declared.register.Register.{Register}
 use Rattle.sequential.specs.Sequential.{State, World, then}
-use Rattle.clocking.specs.declared.latch.Fetched.{Fetched}
-use Rattle.clocking.specs.declared.latch.Decoded.{Decoded}
 use Rattle.clocking.specs.declared.latch.Executed.{Executed}
-use Rattle.clocking.specs.declared.latch.Completed.{Completed}
 use Rattle.clocking.specs.declared.latch.Latch.{Latch}
 use Rattle.clocking.specs.declared.latch.Latch.TheVariants.{Empty, Faulting, Full}
 use Rattle.clocking.specs.declared.stage.Flow.{Flow}
@@ -21,7 +17,7 @@ use Rattle.clocking.specs.declared.stage.Operand.TheVariants.{Value, Hazard}
 use Rattle.std.proofs.lemmas.Bool.{both_ways}
 use Rattle.rv32i.specs.Effects.{request, loaded}
 use Rattle.rv32i.proofs.Laws.{InRange, in_range}
-use Rattle.clocking.specs.Stages.{data_request, sent, complete, completes_with, answered, told, data_stage, arrived, from_m, or_else}
+use Rattle.clocking.specs.Stages.{data_request, sent, complete, completes_with, answered, told, data_stage, from_m, or_else}
 use Rattle.clocking.specs.declared.stage.DataOut.{DataOut}
 use Rattle.clocking.proofs.Chain.{Reach, Broken, HoldsW, HoldsM, behindW, behindM, bytes_at}
 use Rattle.clocking.proofs.Forward.{Known, layer, known_layer, Pairs, Runs, At, at, pairs, runs}

@@ -1,31 +1,20 @@
 -- The fetch stage keeps the chain. Assumes nothing.
-use Rattle.std.proofs.Common.{◌≡◌, ℕ, ◌%◌, Bool, true, false, cond, eqb, ltb, Some, None, Ok, Err, Option, Result, sym, refl, ap, ◌∙◌, subst, eqb-true}
-use Rattle.base.specs.Bytes.{within, word, put}
-use Rattle.base.specs.declared.bus.Request.{Request}
-use Rattle.base.specs.declared.bus.Request.TheVariants.{Read, Write}
+use Rattle.std.proofs.Common.{◌≡◌, ℕ, ◌%◌, Bool, true, false, cond, eqb, ltb, Some, None, Ok, Err, Option, sym, refl, ap, ◌∙◌, eqb-true}
+use Rattle.base.specs.Bytes.{within, word}
+use Rattle.base.specs.declared.bus.Request.TheVariants.{Read}
 use Rattle.memory.specs.declared.Reply.{Reply}
 use Rattle.memory.specs.declared.Reply.TheVariants.{Word, Done as Did, Wait, Outside}
-use Rattle.rv32i.specs.declared.cause.Cause.{Cause}
-use Rattle.rv32i.specs.declared.register.Register.{Register}
 use Rattle.sequential.specs.Sequential.{State, World, then}
 use Rattle.clocking.specs.declared.latch.Fetched.{Fetched}
-use Rattle.clocking.specs.declared.latch.Decoded.{Decoded}
-use Rattle.clocking.specs.declared.latch.Executed.{Executed}
-use Rattle.clocking.specs.declared.latch.Completed.{Completed}
 use Rattle.clocking.specs.declared.latch.Latch.{Latch}
-use Rattle.clocking.specs.declared.latch.Latch.TheVariants.{Empty, Faulting, Full}
 use Rattle.clocking.specs.declared.stage.Flow.{Flow}
 use Rattle.clocking.specs.declared.stage.Flow.TheVariants.{Moves, Stays, RollsBack}
-use Rattle.clocking.specs.declared.stage.Operand.{Operand}
-use Rattle.clocking.specs.declared.stage.Operand.TheVariants.{Value, Hazard}
 use Rattle.std.proofs.lemmas.Bool.{and_parts}
-use Rattle.rv32i.specs.Effects.{following}
 use Rattle.words.specs.Issues.{issued}
 use Rattle.rv32i.specs.declared.cause.Cause.TheVariants.{JumpMisaligned, FetchOutside}
 use Rattle.sequential.specs.Sequential.{fetch}
 use Rattle.clocking.specs.Stages.{fetching, fetch_request, redirected, fetches_on, fetch_stage}
-use Rattle.clocking.specs.declared.stage.Fetching.{Fetching}
-use Rattle.clocking.specs.declared.stage.Fetching.TheVariants.{Idle, Fault, Ask}
+use Rattle.clocking.specs.declared.stage.Fetching.TheVariants.{Fault, Ask}
 use Rattle.clocking.specs.declared.stage.FetchOut.{FetchOut}
 use Rattle.clocking.proofs.Chain.{Reach, HoldsD, behindD, Leads, guessed}
 use Rattle.clocking.proofs.Decode.{Rests}

@@ -1,5 +1,5 @@
 -- Registers read through the latches, and what the parts of a step say of one another. Assumes nothing.
-use Rattle.std.proofs.Common.{◌≡◌, ℕ, ◌*◌, ◌%◌, ◌^◌, ◌<◌, Bool, true, false, cond, eqb, ltb, List, length, get_or, set, Some, None, Ok, Err, Option, Result, sym, refl, ap, ◌∙◌, subst, arith, length-set, get_or-set_other, get_or-set_same, eqb-true}
+use Rattle.std.proofs.Common.{◌≡◌, ℕ, ◌*◌, ◌%◌, ◌^◌, ◌<◌, Bool, true, false, cond, eqb, ltb, List, length, get_or, set, Some, None, Ok, Err, Option, Result, sym, refl, ◌∙◌, arith, length-set, get_or-set_other, get_or-set_same, eqb-true}
 use borrow.Author.Tests.{eqb-false}
 use Rattle.base.specs.declared.bus.Request.{Request}
 use Rattle.base.specs.declared.bus.Request.TheVariants.{Read, Write}
@@ -14,16 +14,15 @@ use Rattle.rv32i.specs.declared.effect.Effect.{Effect}
 use Rattle.rv32i.specs.declared.instruction.Instruction.{Instruction}
 use Rattle.rv32i.specs.declared.register.Register.{Register}
 use Rattle.rv32i.specs.declared.registers.Registers.{Registers}
-use Rattle.sequential.specs.Sequential.{State, World, Transfer, then, transferred, fetch}
+use Rattle.sequential.specs.Sequential.{State, World, then, fetch}
 use Rattle.clocking.specs.Stages.{complete, ran, execute, gives, early, or_else, value_of, source}
-use Rattle.clocking.specs.declared.latch.Fetched.{Fetched}
 use Rattle.clocking.specs.declared.latch.Decoded.{Decoded}
 use Rattle.clocking.specs.declared.latch.Executed.{Executed}
 use Rattle.clocking.specs.declared.latch.Completed.{Completed}
 use Rattle.clocking.specs.declared.stage.Operand.{Operand}
-use Rattle.clocking.specs.declared.stage.Operand.TheVariants.{Value, Hazard}
+use Rattle.clocking.specs.declared.stage.Operand.TheVariants.{Value}
 use Rattle.clocking.proofs.Chain.{Reach}
-use Rattle.clocking.proofs.Partial.{operated, Done, settled_by, settle, moved, fetched_at, decoded_at, executed_at, done_at, completed_at, after_at}
+use Rattle.clocking.proofs.Partial.{operated, Done, settled_by, settle, moved, decoded_at, executed_at, done_at, completed_at, after_at}
 
 -- ---- registers
 

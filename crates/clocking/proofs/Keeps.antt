@@ -1,13 +1,8 @@
 -- One clock keeps the chain. Assumes nothing.
-use Rattle.std.proofs.Common.{◌≡◌, ℕ, ◌%◌, Bool, true, false, cond, eqb, ltb, Some, None, Ok, Err, Option, Result, sym, refl, ap, ◌∙◌, subst, arith}
-use Rattle.base.specs.Bytes.{within, word, put}
-use Rattle.base.specs.declared.bus.Request.{Request}
-use Rattle.base.specs.declared.bus.Request.TheVariants.{Read, Write}
+use Rattle.std.proofs.Common.{◌≡◌, ℕ, Bool, true, false, cond, eqb, Some, None, Ok, Err, Option, sym, refl, ap, ◌∙◌, subst, arith}
 use Rattle.memory.specs.declared.Reply.{Reply}
-use Rattle.memory.specs.declared.Reply.TheVariants.{Word, Done as Did, Wait, Outside}
-use Rattle.rv32i.specs.declared.cause.Cause.{Cause}
 use Rattle.rv32i.specs.declared.register.Register.{Register}
-use Rattle.sequential.specs.Sequential.{State, World, then}
+use Rattle.sequential.specs.Sequential.{State, World}
 use Rattle.clocking.specs.declared.latch.Fetched.{Fetched}
 use Rattle.clocking.specs.declared.latch.Decoded.{Decoded}
 use Rattle.clocking.specs.declared.latch.Executed.{Executed}
@@ -17,13 +12,13 @@ use Rattle.clocking.specs.declared.latch.Latch.TheVariants.{Empty, Faulting, Ful
 use Rattle.clocking.specs.declared.stage.Flow.{Flow}
 use Rattle.clocking.specs.declared.stage.Flow.TheVariants.{Moves, Stays, RollsBack}
 use Rattle.clocking.specs.declared.stage.Operand.{Operand}
-use Rattle.clocking.specs.declared.stage.Operand.TheVariants.{Value, Hazard}
+use Rattle.clocking.specs.declared.stage.Operand.TheVariants.{Value}
 use Rattle.rv32i.specs.Registers.{written}
 use Rattle.rv32i.specs.declared.registers.Registers.{Registers}
 use Rattle.clocking.specs.Clock.{written_back, completes, executes, reads, decodes, plans, fetches, latches_after}
-use Rattle.clocking.specs.Stages.{data_request, sent, x_result, gives, from_x, from_m, from_w, or_else, value_of, values_in_flight, fetch_request}
+use Rattle.clocking.specs.Stages.{data_request, sent, gives, from_m, from_w, or_else, value_of, fetch_request}
 use Rattle.clocking.specs.declared.latch.Latches.{Latches}
-use Rattle.clocking.proofs.Chain.{Flows, Reach, HoldsW, HoldsM, HoldsX, HoldsD, behindW, behindM, behindX, behindD, Leads, bytes_at, Chain}
+use Rattle.clocking.proofs.Chain.{Flows, Reach, HoldsM, HoldsX, HoldsD, behindW, behindM, behindX, behindD, Leads, Chain}
 use Rattle.clocking.proofs.Data.{Back, left, DataKept, data_kept}
 use Rattle.clocking.proofs.Decode.{SourcedRead, DecodeKept, decode_kept}
 use Rattle.clocking.proofs.Execute.{Sourced, ExecuteKept, execute_kept}

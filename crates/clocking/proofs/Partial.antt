@@ -1,5 +1,5 @@
 -- What the sequential machine's instruction at a state comes to, stage by stage, in the terms of the latches. Assumes nothing.
-use Rattle.std.proofs.Common.{◌≡◌, ℕ, Some, None, Ok, Err, Option, Result, sym, refl, ap, ◌∙◌}
+use Rattle.std.proofs.Common.{◌≡◌, ℕ, Ok, Err, Option, Result, refl, ap, ◌∙◌}
 use Rattle.base.specs.declared.bus.Request.{Request}
 use Rattle.rv32i.specs.Effects.{destination, executed, access, request}
 use Rattle.words.specs.Issues.{issued}

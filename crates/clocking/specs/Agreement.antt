@@ -1,5 +1,5 @@
 -- How a pipeline agrees with the sequential machine, after the clocks of a history. Assumes nothing.
-use Rattle.std.specs.Prelude.{◌≡◌, ℕ, ◌+◌, ◌<◌, ◌≤◌, Bool, true, false, ◌||◌, List, [], ◌∷◌, ◌++◌, length, is_some, Some, None, Ok, Err, Option}
+use Rattle.std.specs.Prelude.{◌≡◌, ℕ, ◌+◌, ◌<◌, ◌≤◌, Bool, true, ◌||◌, List, [], ◌∷◌, ◌++◌, length, is_some, Some, None, Ok, Err, Option}
 use Rattle.base.specs.declared.branch.Outcome.{Outcome}
 use Rattle.memory.specs.Meaning.{Meaning}
 use Rattle.sequential.specs.Runs.{Steps}

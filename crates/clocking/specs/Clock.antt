@@ -1,5 +1,5 @@
 -- One clock. Assumes nothing.
-use Rattle.std.specs.Prelude.{◌≡◌, ℕ, ◌+◌, Bool, true, false, ◌&&◌, List, [], ◌∷◌, is_some, Some, None, Option}
+use Rattle.std.specs.Prelude.{◌≡◌, ℕ, true, false, ◌&&◌, is_some, Some, None, Option}
 use Rattle.base.specs.declared.branch.Outcome.{Outcome}
 use Rattle.memory.specs.Meaning.{Meaning}
 use Rattle.memory.specs.declared.Reply.{Reply}

@@ -1,15 +1,15 @@
 -- A stretch of a long run makes at least one clock, and none past what it was asked for. Assumes nothing.
-use Rattle.std.proofs.Common.{◌≡◌, ℕ, zero, suc, ◌+◌, ◌<◌, ◌≤◌, true, false, List, [], ◌∷◌, ◌++◌, length, Some, None, Option, sym, refl, ap, ◌∙◌, ⊎_elim, true≢false, arith}
+use Rattle.std.proofs.Common.{◌≡◌, ℕ, zero, suc, ◌+◌, ◌<◌, ◌≤◌, false, List, [], ◌++◌, Some, None, Option, sym, refl, ap, ◌∙◌, ⊎_elim, true≢false, arith}
 use Rattle.base.specs.declared.refusal.Refusal.{Refusal}
 use Rattle.base.specs.declared.refusal.Refusal.TheVariants.{FlatSize, LongWait, BadStart, Held, Stopped, LogFull, ClocksSpent, WrongToken, NotThere, NoWord}
 use Rattle.memory.specs.Meaning.{Meaning}
-use Rattle.clocking.specs.Clock.{Cycled, Worked, stop_of}
+use Rattle.clocking.specs.Clock.{Worked, stop_of}
 use Rattle.clocking.specs.Ports.{Table}
 use Rattle.clocking.specs.declared.core.Core.{Core}
 use Rattle.clocking.specs.declared.core.Event.{Event}
 use Rattle.sequential.specs.declared.record.Stop.{Stop}
 use Rattle.pipeline.specs.Calls.{Logs, logged, retired_entries, Blocked, is_stopped, Clocks, start, next, Ended, Ran}
-use Rattle.pipeline.specs.Theorem.{Calls, run}
+use Rattle.pipeline.specs.Theorem.{run}
 use Rattle.pipeline.specs.declared.machine.Machine.{Machine}
 use Rattle.pipeline.specs.declared.machine.Run.{Run}
 use Rattle.pipeline.proofs.Runs.{retired_after}

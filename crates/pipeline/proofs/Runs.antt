@@ -4,7 +4,7 @@ use Rattle.base.specs.declared.refusal.Refusal.{Refusal}
 use Rattle.memory.specs.Meaning.{Meaning}
 use Rattle.clocking.specs.Ports.{Table}
 use Rattle.clocking.specs.declared.core.Event.{Event}
-use Rattle.pipeline.specs.Calls.{Logs, logged, retired_at, retired_entries, clock_entries, Blocked, Free, Ticked, ClockedInto, Clocks, start, next, Short, RanInto}
+use Rattle.pipeline.specs.Calls.{Logs, logged, retired_at, retired_entries, clock_entries, Blocked, Free, ClockedInto, Clocks, start, next, Short, RanInto}
 use Rattle.pipeline.specs.declared.machine.Machine.{Machine}
 
 -- what events add, one list after another

@@ -1,11 +1,11 @@
 -- The main statement, from what every clock keeps. Assumes nothing.
-use Rattle.std.proofs.Common.{◌≡◌, ℕ, ◌<◌, Bool, true, false, List, [], ◌∷◌, ◌++◌, is_some, Some, None, Ok, Err, Option, Result, sym, refl, subst, append_assoc, append-nil, arith}
+use Rattle.std.proofs.Common.{◌≡◌, ℕ, false, List, [], ◌∷◌, ◌++◌, is_some, Some, None, Ok, Err, Option, Result, sym, refl, append_assoc, append-nil}
 use Rattle.base.specs.declared.refusal.Refusal.{Refusal}
 use Rattle.memory.specs.Meaning.{Meaning, Lawful}
 use Rattle.clocking.specs.Ports.{Table}
 use Rattle.clocking.specs.declared.core.Event.{Event}
 use Rattle.clocking.proofs.Agrees.{Kept, Fresh, kept_first, kept_cycle, kept_agrees}
-use Rattle.pipeline.specs.Calls.{Logs, logged, Free, Ticked, Clocked, Clocks, start, next, Ran, HoldCall, ReleaseCall, Loaded}
+use Rattle.pipeline.specs.Calls.{Logs, logged, Free, Ticked, Clocked, Clocks, start, next, HoldCall, ReleaseCall}
 use Rattle.pipeline.specs.Theorem.{Calls, none, clock, run, hold, release, reading, Agrees}
 use Rattle.pipeline.specs.declared.machine.Machine.{Machine}
 use Rattle.pipeline.specs.declared.machine.Rejected.{Rejected}

@@ -2,14 +2,12 @@
 use Rattle.std.specs.Prelude.{◌≡◌, ℕ, ◌+◌, ◌%◌, ◌<◌, ◌≤◌, Bool, true, false, cond, ◌&&◌, ◌⊎◌, List, [], ◌∷◌, ◌++◌, length, replicate, is_some, Some, None, Ok, Err, Option, Result, ◌==◌, ◌≢◌, nat_le, nat_lt}
 use Rattle.base.specs.declared.refusal.Refusal.{Refusal}
 use Rattle.base.specs.declared.refusal.Refusal.TheVariants.{FlatSize, LongWait, BadStart, Held, Stopped, LogFull, ClocksSpent, WrongToken, NotThere, NoWord}
-use Rattle.memory.specs.Meaning.{Meaning, View}
+use Rattle.memory.specs.Meaning.{Meaning}
 use Rattle.sequential.specs.declared.record.Retirement.{Retirement}
 use Rattle.clocking.specs.Clock.{Cycled}
 use Rattle.clocking.specs.Ports.{Table}
 use Rattle.clocking.specs.declared.core.ClockRecord.{ClockRecord}
-use Rattle.clocking.specs.declared.core.Core.{Core}
 use Rattle.clocking.specs.declared.core.Event.{Event}
-use Rattle.clocking.specs.declared.counts.Counts.{Counts}
 use Rattle.clocking.specs.declared.latch.Latch.TheVariants.{Empty}
 use Rattle.pipeline.specs.Tokens.{fresh}
 use Rattle.pipeline.specs.declared.machine.Machine.{Machine}

@@ -1,5 +1,5 @@
 -- What the calls' contracts say of logs. Assumes nothing.
-use Rattle.std.specs.Prelude.{List, [], ◌∷◌, Some, None, Option}
+use Rattle.std.specs.Prelude.{Some, None, Option}
 use Rattle.base.specs.Logs.{records, room}
 use Rattle.base.specs.declared.log.Log.{Log}
 use Rattle.base.specs.declared.refusal.Refusal.{Refusal}

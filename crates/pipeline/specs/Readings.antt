@@ -1,5 +1,4 @@
 -- What can be read of a machine. Assumes nothing.
-use Rattle.std.specs.Prelude.{ℕ, Bool, true, false}
 use Rattle.clocking.specs.Counting.{in_flight_count, one_if}
 use Rattle.pipeline.specs.Calls.{is_stopped}
 use Rattle.pipeline.specs.declared.machine.Machine.{Machine}

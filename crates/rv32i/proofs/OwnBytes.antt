@@ -8,7 +8,7 @@ use Rattle.base.specs.declared.bus.Lanes.{Lanes}
 use Rattle.base.specs.declared.bus.Request.{Request}
 use Rattle.base.specs.declared.bus.Request.TheVariants.{Read, Write}
 use Rattle.rv32i.specs.declared.cause.Cause.{Cause}
-use Rattle.rv32i.specs.declared.effect.Access.TheVariants.{Load, Store}
+use Rattle.rv32i.specs.declared.effect.Access.TheVariants.{Load}
 use Rattle.rv32i.specs.declared.instruction.LoadKind.{LoadKind}
 use Rattle.rv32i.specs.declared.instruction.LoadKind.TheVariants.{Byte, Half, Word, ByteUnsigned, HalfUnsigned}
 use Rattle.rv32i.specs.declared.instruction.StoreKind.{StoreKind}

@@ -26,7 +26,6 @@ use Rattle.rv32i.specs.declared.instruction.Instruction.TheVariants.{Lui, Auipc,
 use Rattle.words.specs.Fields.{opcode_of, rd_of, funct3_of, rs1_of, rs2_of, funct7_of, word_of}
 use Rattle.words.specs.Immediates.{low_bits, twelve, branch_bits, branch_low, branch_high, jump_bits, jump_high, upper}
 use Rattle.words.specs.Operations.{Column, pick, plain, plain_or_20, branches, loads, stores, immediates, registers, jumps_by_register, fences, calls, opcodes, operation_by, operation_of}
-use Rattle.rv32i.specs.Registers.{register}
 use Rattle.rv32i.specs.Signs.{signed}
 use Rattle.words.specs.Words.{taken_apart, if_any, decoded_by, decoded, condition_code, load_code, store_code, immediate_code, shift_codes, register_codes, held_if, within_range, evenly, word_u, word_j, word_i, word_s, word_b, encoded, Undone, Restored}
 use Rattle.rv32i.proofs.Numbered.{register_of}

@@ -1,4 +1,4 @@
-use Rattle.std.proofs.Common.{◌≡◌, ◌+◌, ◌-◌, ◌<◌, ◌≤◌, false, [], refl, ap, ◌∙◌, arith, rules}
+use Rattle.std.proofs.Common.{◌≡◌, ◌<◌, ◌≤◌, false, [], refl, ap, ◌∙◌, arith, rules}
 use Rattle.pipeline.specs.Calls.{is_stopped}
 use Rattle.pipeline.specs.Theorem.{none}
 use Rattle.pipeline.specs.declared.machine.Totals.{Totals}

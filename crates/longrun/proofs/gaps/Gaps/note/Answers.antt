@@ -1,4 +1,4 @@
-use Rattle.std.proofs.Common.{◌≡◌, sym, ap, ◌∙◌}
+use Rattle.std.proofs.Common.{sym, ap, ◌∙◌}
 use Rattle.std.proofs.lemmas.List.{take_all}
 use Rattle.longrun.specs.Gaps.{gap_to, gaps_after}
 use Rattle.longrun.specs.declared.gaps.Gaps.{Gaps}

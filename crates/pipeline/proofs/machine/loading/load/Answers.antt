@@ -1,4 +1,4 @@
-use Rattle.std.proofs.Common.{length, refl, ap, ◌∙◌, rules}
+use Rattle.std.proofs.Common.{length, refl, ap, rules}
 use Rattle.pipeline.proofs.Theorem.{agrees}
 use Rattle.pipeline.proofs.machine.loading.load.Goals as goal
 

@@ -1,4 +1,4 @@
-use Rattle.std.proofs.Common.{◌≡◌, ◌-◌, ◌<◌, [], ◌∷◌, ◌++◌, length, Ok, Err, refl, ◌∙◌, subst, arith, length-append}
+use Rattle.std.proofs.Common.{◌≡◌, ◌<◌, [], ◌∷◌, ◌++◌, length, Ok, Err, refl, ◌∙◌, subst, arith, length-append}
 use Rattle.base.proofs.Pushed.{pushed}
 use Rattle.base.specs.Logs.{records, room}
 use Rattle.sequential.specs.Sequential.{World}

@@ -20,7 +20,7 @@ pub returns-in-gshare : goal.returns-in-gshare
 unfolding simple named
 returns-in-gshare c = sym (ap simple c.in-gshare.is)
 
-pub returns-in-default : goal.returns-in-default
+pub returns-in_default : goal.returns-in_default
 unfolding simple
-returns-in-default c =
-    unnamed simple_names c.args.name.now (c.in-default.not-never, (c.in-default.not-backward, (c.in-default.not-bimodal, (c.in-default.not-gshare, tt))))
+returns-in_default c =
+    unnamed simple_names c.args.name.now (c.in_default.not-never, (c.in_default.not-backward, (c.in_default.not-bimodal, (c.in_default.not-gshare, tt))))

@@ -11,4 +11,4 @@ pub returns : goal.returns
 returns c =
     let bs = c.args.digits.now in
     let plain : get_or bs 0 0 ≡ 43 → ⊥ = not_from_Decides c.signed.result c.signed.ensures c.if-signed.false in
-    c.ok.ensures.value ∙ number_read c.args.radix bs c.from-str-radix.result (rw (without_leading_plus_none bs plain) at c.from-str-radix.ensures.value)
+    c.ok.ensures.value ∙ number_read c.args.radix bs c.from_str_radix.result (rw (without_leading_plus_none bs plain) at c.from_str_radix.ensures.value)

@@ -2,14 +2,14 @@ use Rattle.std.proofs.Common.{◌∙◌}
 use Rattle.setup.specs.Options.{counted}
 use Rattle.setup.proofs.options.clocks_of.Goals as goal
 
-pub returns-in-err-clocks : goal.returns-in-err-clocks
+pub returns-in_err-clocks : goal.returns-in_err-clocks
 unfolding counted
-returns-in-err-clocks c =
-    let none = c.in-err-clocks.ensures in
-    c.from-residual.ensures ∙ rw (counted, ← none)
+returns-in_err-clocks c =
+    let none = c.in_err-clocks.ensures in
+    c.from_residual.ensures ∙ rw (counted, ← none)
 
 pub returns : goal.returns
 unfolding counted
 returns c =
-    let some = c.in-ok-clocks.ensures in
-    c.then-some.ensures ∙ rw (counted, ← some)
+    let some = c.in_ok-clocks.ensures in
+    c.then_some.ensures ∙ rw (counted, ← some)

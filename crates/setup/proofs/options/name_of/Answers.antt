@@ -36,6 +36,6 @@ pub returns-in-text-8 : goal.returns-in-text-8
 unfolding name named
 returns-in-text-8 c = sym (ap name c.in-text-8.is)
 
-pub returns-in-default : goal.returns-in-default
+pub returns-in_default : goal.returns-in_default
 unfolding name
-returns-in-default c = unnamed option_names c.args.word.now (c.in-default.not-text, (c.in-default.not-text-2, (c.in-default.not-text-3, (c.in-default.not-text-4, (c.in-default.not-text-5, (c.in-default.not-text-6, (c.in-default.not-text-7, (c.in-default.not-text-8, tt))))))))
+returns-in_default c = unnamed option_names c.args.word.now (c.in_default.not-text, (c.in_default.not-text-2, (c.in_default.not-text-3, (c.in_default.not-text-4, (c.in_default.not-text-5, (c.in_default.not-text-6, (c.in_default.not-text-7, (c.in_default.not-text-8, tt))))))))

@@ -1,7 +1,7 @@
 -- When two requests are the same. Assumes nothing.
-use Rattle.std.specs.Prelude.{◌≡◌, Bool, true, false, Decides, refl}
-use Rattle.std.proofs.Common.{ap, rules}
-use Rattle.std.specs.Bool.{one_answer}
+use Rattle.std.specs.Prelude.{◌≡◌, Bool, true, false, refl}
+use Rattle.std.proofs.Common.{ap, ◌∙◌, rules}
+use Rattle.std.specs.Bool.{beq}
 use Rattle.std.proofs.lemmas.Bool.{eqb-true, eq-eqb, and_parts, and_from}
 use Rattle.base.specs.declared.bus.Lanes.{Lanes}
 use Rattle.base.specs.declared.bus.Request.{Request}
@@ -33,9 +33,6 @@ lanes_is l k e =
     let e3 = flags_is _ _ r.1 in
     λ i. record { b0 = e0 i; b1 = e1 i; b2 = e2 i; b3 = e3 i }
 
-request_decides : (p q : Request) (r : Bool) → (r ≡ ghosts.eq p q) → Decides r (p ≡ q)
-request_decides p q r h = search rules
-
 pub request_self : (q : Request) → same_request q q ≡ true
 unfolding same_request
 request_self (Read a) = eq-eqb a a refl
@@ -54,9 +51,19 @@ request_is (Write a w l) (Write b v k) e =
     let el = lanes_is _ _ q.1 in
     λ i. Write (ea i) (ew i) (el i)
 
-pub request_same : (p q : Request) → p ≡ q → same_request p q ≡ true
-request_same p q e = rw e (request_self q)
+flags_eq : (x y : Bool) → beq x y ≡ same_flag x y
+flags_eq true true = refl
+flags_eq true false = refl
+flags_eq false true = refl
+flags_eq false false = refl
+
+requests_eq : (p q : Request) → ghosts.eq p q ≡ same_request p q
+unfolding same_request
+requests_eq (Read a) (Read b) = refl
+requests_eq (Read a) (Write b v k) = refl
+requests_eq (Write a w l) (Read b) = refl
+requests_eq (Write a w l) (Write b v k) = simp flags_eq
 
 -- what a test of two requests answers
 pub request_says : (p q : Request) (r : Bool) → (r ≡ ghosts.eq p q) → r ≡ same_request p q
-request_says p q r h = one_answer r (same_request p q) (request_decides p q r h) (request_is p q, request_same p q)
+request_says p q r h = h ∙ requests_eq p q

@@ -1,10 +1,10 @@
 -- A write buffer keeps the rules, if the memory below does. Assumes nothing.
 use Rattle.std.specs.Prelude.{◌≡◌, ℕ, ◌+◌, ◌*◌, ◌%◌, ◌<◌, ◌≤◌, Bool, true, false, cond, List, [], ◌∷◌, length, drop, nat_le, refl}
-use Rattle.std.proofs.Common.{sym, ap, ◌∙◌, inl, inr, arith}
+use Rattle.std.proofs.Common.{sym, ap, ◌∙◌, inl, inr, arith, length-take}
 use Rattle.std.proofs.lemmas.List.Sums.{fold_push}
 use Rattle.std.proofs.lemmas.Bool.{leb-true, lt-leb, cond-true, cond-false, cases_Bool, cond_both, both_ways}
 use Rattle.std.proofs.lemmas.Bool.Decides.{when_true, when_false}
-use Rattle.base.specs.Bytes.{within, word, put}
+use Rattle.base.specs.Bytes.{within, put}
 use Rattle.base.specs.declared.bus.Lanes.{Lanes}
 use Rattle.base.specs.declared.bus.Request.{Request}
 use Rattle.base.specs.declared.bus.Request.TheVariants.{Read, Write}
@@ -15,7 +15,6 @@ use Rattle.write_buffer.specs.declared.WriteBuffer.{WriteBuffer}
 use Rattle.write_buffer.specs.Held.{oldest, laid, over}
 use Rattle.memory.specs.Meaning.{View, Meaning, Lawful, Same, Changed, Served, place}
 use Rattle.write_buffer.specs.WriteBuffer.{asks, sent, behind, held, fits, buffer_waits, buffer_view, buffer_means, Takes, Sends, InTurn, Accepts, BufferServes, Idles}
-use Rattle.write_buffer.specs.PostedWrites.{pending_length}
 use Rattle.memory.proofs.Rules.{same_as, fixed, waited, outside, layer_within, layer_aligned, layer_patient, layer_fewer}
 
 over_same : {s t y z : ℕ} {ps qs : List PostedWrite} (x : ℕ) → s ≡ t → ps ≡ qs → y ≡ z → over s ps x y ≡ over t qs x z
@@ -67,7 +66,7 @@ module _ {M : Type 0} {m : Meaning M} (laws : Lawful m) where
       cond_both (nat_le 4 (length (p ∷ ps))) (low.waits n (asks p) + 1) 0 (λ z. z ≤ 5 * low.longest n + 4) (λ _. omega arith) (λ _. omega arith)
 
   few : (b : WriteBuffer M) → length (held b) ≤ 4
-  few b = omega (arith, pending_length b.held)
+  few b = simp length-take (omega arith)
 
   -- what is seen after a call
 

@@ -61,7 +61,7 @@ fn totals_line(heap: Global, counts: Totals) -> Result<String, AllocError>
     let clocks = counts.clocks;
     let fetched = counts.fetched;
     let retired = counts.retired;
-    let dropped = counts.retired;
+    let dropped = counts.dropped;
     let in_flight = counts.in_flight;
     format!(in heap;
         "clocks {clocks} fetched {fetched} retired {retired} dropped {dropped} in flight {in_flight}\n"

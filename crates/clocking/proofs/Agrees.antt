@@ -15,8 +15,8 @@ use Rattle.clocking.specs.Clock.{stop_of, retirement_of, outcome_of, written_bac
 use Rattle.clocking.specs.Counting.{in_flight_count, occupied, has_fetched, dropped, one_if, Counted}
 use Rattle.clocking.specs.Ports.{Table, Taught, arrival}
 use Rattle.clocking.specs.Stages.{data_request, sent, fetch_request}
-use Rattle.clocking.specs.declared.core.Core.{Core}
-use Rattle.clocking.specs.declared.core.Event.{Event}
+use Rattle.clocking.specs.declared.state.Core.{Core}
+use Rattle.clocking.specs.declared.state.Event.{Event}
 use Rattle.clocking.specs.declared.latch.Completed.{Completed}
 use Rattle.clocking.specs.declared.latch.Fetched.{Fetched}
 use Rattle.clocking.specs.declared.latch.Latch.{Latch}

@@ -7,7 +7,7 @@ use Rattle.clocking.specs.Agreement.{listed, retirements, outcomes}
 use Rattle.clocking.specs.Clock.{outcome_of}
 use Rattle.clocking.specs.Counting.{one_if}
 use Rattle.clocking.specs.Ports.{Table, Taught}
-use Rattle.clocking.specs.declared.core.Event.{Event}
+use Rattle.clocking.specs.declared.state.Event.{Event}
 
 pub retirements_more : (h : List Event) (e : Event) → retirements (h ++ e ∷ []) ≡ retirements h ++ listed e.retirement
 retirements_more [] e = append-nil (listed e.retirement)

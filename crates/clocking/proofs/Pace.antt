@@ -1,7 +1,7 @@
 -- How long a history may go on without a retirement or the stop. Assumes nothing.
 use Rattle.std.proofs.Common.{◌≡◌, ℕ, ◌-◌, ◌≤◌, Bool, true, false, cond, List, [], ◌∷◌, ◌++◌, refl, ap, arith}
 use Rattle.clocking.specs.Agreement.{retires, productive, Soon}
-use Rattle.clocking.specs.declared.core.Event.{Event}
+use Rattle.clocking.specs.declared.state.Event.{Event}
 
 -- more is what a retirement allows anew
 module _ (more : ℕ) where

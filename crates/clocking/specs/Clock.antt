@@ -12,10 +12,10 @@ use Rattle.sequential.specs.declared.record.Stop.{Stop}
 use Rattle.clocking.specs.Counting.{has_fetched, dropped, Counted, stays, moves, rolls_back, is_wait}
 use Rattle.clocking.specs.Ports.{Table, Asked, Taught, arrival}
 use Rattle.clocking.specs.Stages.{data_request, sent, data_stage, execute_stage, x_result, values_in_flight, decode_stage, fetching, fetch_request, fetch_stage}
-use Rattle.clocking.specs.declared.core.Core.{Core}
-use Rattle.clocking.specs.declared.core.ClockRecord.{ClockRecord}
-use Rattle.clocking.specs.declared.core.Event.{Event}
-use Rattle.clocking.specs.declared.core.Notes.{Notes}
+use Rattle.clocking.specs.declared.state.Core.{Core}
+use Rattle.clocking.specs.declared.state.ClockRecord.{ClockRecord}
+use Rattle.clocking.specs.declared.state.Event.{Event}
+use Rattle.clocking.specs.declared.state.Notes.{Notes}
 use Rattle.clocking.specs.declared.latch.Completed.{Completed}
 use Rattle.clocking.specs.declared.latch.Fetched.{Fetched}
 use Rattle.clocking.specs.declared.latch.Latch.{Latch}

@@ -2,7 +2,7 @@
 //! the sequential machine.
 #![tactic(auto)]
 
-pub mod core;
 pub mod counts;
 pub mod latch;
 pub mod stage;
+pub mod state;

@@ -2,8 +2,8 @@
 use Rattle.std.specs.Prelude.{ℕ, Bool, cond, ◌||◌, List, [], ◌∷◌, ◌++◌, Some, None, codes, decimal, Option}
 use Rattle.std.proofs.Math.Utf8.{encode}
 use Rattle.std.specs.Bool.{then_some}
-use Rattle.clocking.specs.declared.core.ClockRecord.{ClockRecord}
-use Rattle.clocking.specs.declared.core.Notes.{Notes}
+use Rattle.clocking.specs.declared.state.ClockRecord.{ClockRecord}
+use Rattle.clocking.specs.declared.state.Notes.{Notes}
 use Rattle.listing.specs.Hex.{hex, places}
 use Rattle.listing.specs.Lines.{lines}
 use Rattle.listing.specs.Texts.{spaced, record_text, stop_text}

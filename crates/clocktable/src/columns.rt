@@ -3,7 +3,7 @@ ghost use Rattle.std.specs.Prelude.{◌≡◌, Some};
 ghost use Rattle.std.specs.Fmt.{WritesOnOk};
 ghost use Rattle.clocktable.specs.Tables.{address_text, letter_text, letters, noted, notes_text, stages_text, clock_text, counts_text};
 
-use clocking::core::{ClockRecord, Notes};
+use clocking::state::{ClockRecord, Notes};
 use listing::hex::Hex;
 use pipeline::machine::Totals;
 use std::fmt;

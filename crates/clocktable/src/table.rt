@@ -4,7 +4,7 @@ ghost use Rattle.listing.specs.Lines.{lines};
 ghost use Rattle.clocktable.specs.Tables.{retired_line, clock_line, end_line, retired_head, clock_head, two_tables, clock_table};
 
 use crate::columns::{ClockText, CountsText};
-use clocking::core::ClockRecord;
+use clocking::state::ClockRecord;
 use listing::records::{RecordText, StopText};
 use pipeline::machine::{RetiredAt, Totals};
 use sequential::record::Stop;

@@ -3,8 +3,8 @@ use Rattle.std.specs.Prelude.{◌≡◌, ◌<◌, true, ◌⊎◌, is_some, Some
 use Rattle.memory.specs.Meaning.{Meaning}
 use Rattle.clocking.specs.Clock.{Cycled}
 use Rattle.clocking.specs.Ports.{Table}
-use Rattle.clocking.specs.declared.core.Core.{Core}
-use Rattle.clocking.specs.declared.core.Event.{Event}
+use Rattle.clocking.specs.declared.state.Core.{Core}
+use Rattle.clocking.specs.declared.state.Event.{Event}
 
 -- the clock that the rule has; a core that has stopped or has made all its clocks stays as it is
 abbrev pub Cycles : {P I D : Type 0} → Table P → Meaning I → Meaning D → Core P I D → Option Event → Core P I D → Type 0

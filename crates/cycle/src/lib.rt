@@ -7,10 +7,10 @@ ghost use Rattle.clocking.specs.Counting.{Counted};
 ghost use Rattle.clocking.specs.Stages.{decode_stage, values_in_flight, x_result};
 ghost use Rattle.cycle.specs.Cycles.{Cycles};
 
-use clocking::core::{Core, Event};
 use clocking::counts::Counts;
 use clocking::latch::{Latch, Latches};
 use clocking::stage::{DataOut, DecodeOut, ExecuteOut};
+use clocking::state::{Core, Event};
 use memory::Memory;
 use ports::asking::{arrival, ask_or_idle, teach};
 use ports::counting::{dropped, has_fetched};

@@ -5,8 +5,8 @@ use Rattle.base.specs.declared.refusal.Refusal.TheVariants.{FlatSize, LongWait, 
 use Rattle.memory.specs.Meaning.{Meaning}
 use Rattle.clocking.specs.Clock.{Worked, stop_of}
 use Rattle.clocking.specs.Ports.{Table}
-use Rattle.clocking.specs.declared.core.Core.{Core}
-use Rattle.clocking.specs.declared.core.Event.{Event}
+use Rattle.clocking.specs.declared.state.Core.{Core}
+use Rattle.clocking.specs.declared.state.Event.{Event}
 use Rattle.sequential.specs.declared.record.Stop.{Stop}
 use Rattle.pipeline.specs.Calls.{Logs, logged, retired_entries, Blocked, is_stopped, Clocks, start, next, Ended, Ran}
 use Rattle.pipeline.specs.Theorem.{run}

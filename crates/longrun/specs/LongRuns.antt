@@ -2,7 +2,7 @@
 use Rattle.std.specs.Prelude.{◌≡◌, ℕ, ◌≤◌, true, ◌⊎◌, List, []}
 use Rattle.memory.specs.Meaning.{Meaning}
 use Rattle.clocking.specs.Ports.{Table}
-use Rattle.clocking.specs.declared.core.Event.{Event}
+use Rattle.clocking.specs.declared.state.Event.{Event}
 use Rattle.pipeline.specs.Calls.{Logs, retired_entries, is_stopped}
 use Rattle.pipeline.specs.Theorem.{Calls}
 use Rattle.pipeline.specs.declared.machine.Machine.{Machine}

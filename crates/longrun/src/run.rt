@@ -1,13 +1,13 @@
 //! A run up to a number of clocks.
 ghost use Rattle.std.specs.Prelude.{◌≡◌, ◌≤◌, List, length};
-ghost use Rattle.clocking.specs.declared.core.Event.{Event};
+ghost use Rattle.clocking.specs.declared.state.Event.{Event};
 ghost use Rattle.pipeline.specs.Calls.{Ran, retired_entries};
 ghost use Rattle.longrun.specs.Gaps.{gaps_after};
 ghost use Rattle.longrun.specs.LongRuns.{RanTo, empty_logs};
 
 use crate::gaps::Gaps;
 use base::log::Log;
-use clocking::core::ClockRecord;
+use clocking::state::ClockRecord;
 use memory::Memory;
 use pipeline::machine::{Machine, RetiredAt, Run};
 use predictor::Predictor;

@@ -3,7 +3,7 @@ use Rattle.std.proofs.Common.{◌≡◌, ℕ, zero, suc, ◌+◌, ◌<◌, List,
 use Rattle.base.specs.declared.refusal.Refusal.{Refusal}
 use Rattle.memory.specs.Meaning.{Meaning}
 use Rattle.clocking.specs.Ports.{Table}
-use Rattle.clocking.specs.declared.core.Event.{Event}
+use Rattle.clocking.specs.declared.state.Event.{Event}
 use Rattle.pipeline.specs.Calls.{Logs, logged, retired_at, retired_entries, clock_entries, Blocked, Free, ClockedInto, Clocks, start, next, Short, RanInto}
 use Rattle.pipeline.specs.declared.machine.Machine.{Machine}
 

@@ -3,7 +3,7 @@ use Rattle.std.proofs.Common.{◌≡◌, ℕ, false, List, [], ◌∷◌, ◌++�
 use Rattle.base.specs.declared.refusal.Refusal.{Refusal}
 use Rattle.memory.specs.Meaning.{Meaning, Lawful}
 use Rattle.clocking.specs.Ports.{Table}
-use Rattle.clocking.specs.declared.core.Event.{Event}
+use Rattle.clocking.specs.declared.state.Event.{Event}
 use Rattle.clocking.proofs.Agrees.{Kept, Fresh, kept_first, kept_cycle, kept_agrees}
 use Rattle.pipeline.specs.Calls.{Logs, logged, Free, Ticked, Clocked, Clocks, start, next, HoldCall, ReleaseCall}
 use Rattle.pipeline.specs.Theorem.{Calls, none, clock, run, hold, release, reading, Agrees}

@@ -6,8 +6,8 @@ use Rattle.memory.specs.Meaning.{Meaning}
 use Rattle.sequential.specs.declared.record.Retirement.{Retirement}
 use Rattle.clocking.specs.Clock.{Cycled}
 use Rattle.clocking.specs.Ports.{Table}
-use Rattle.clocking.specs.declared.core.ClockRecord.{ClockRecord}
-use Rattle.clocking.specs.declared.core.Event.{Event}
+use Rattle.clocking.specs.declared.state.ClockRecord.{ClockRecord}
+use Rattle.clocking.specs.declared.state.Event.{Event}
 use Rattle.clocking.specs.declared.latch.Latch.TheVariants.{Empty}
 use Rattle.pipeline.specs.Tokens.{fresh}
 use Rattle.pipeline.specs.declared.machine.Machine.{Machine}

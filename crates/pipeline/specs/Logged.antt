@@ -3,7 +3,7 @@ use Rattle.std.specs.Prelude.{Some, None, Option}
 use Rattle.base.specs.Logs.{records, room}
 use Rattle.base.specs.declared.log.Log.{Log}
 use Rattle.base.specs.declared.refusal.Refusal.{Refusal}
-use Rattle.clocking.specs.declared.core.ClockRecord.{ClockRecord}
+use Rattle.clocking.specs.declared.state.ClockRecord.{ClockRecord}
 use Rattle.pipeline.specs.Calls.{Logs, Blocked, Free}
 use Rattle.pipeline.specs.declared.machine.Machine.{Machine}
 use Rattle.pipeline.specs.declared.machine.RetiredAt.{RetiredAt}

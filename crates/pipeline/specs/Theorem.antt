@@ -4,7 +4,7 @@ use Rattle.base.specs.declared.refusal.Refusal.{Refusal}
 use Rattle.memory.specs.Meaning.{Meaning}
 use Rattle.clocking.specs.Agreement.{Agreement}
 use Rattle.clocking.specs.Ports.{Table}
-use Rattle.clocking.specs.declared.core.Event.{Event}
+use Rattle.clocking.specs.declared.state.Event.{Event}
 use Rattle.pipeline.specs.Calls.{Logs, Clocked, Ran, HoldCall, ReleaseCall}
 use Rattle.pipeline.specs.declared.machine.Machine.{Machine}
 use Rattle.pipeline.specs.declared.machine.Rejected.{Rejected}

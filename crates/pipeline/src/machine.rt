@@ -1,7 +1,7 @@
 //! The machine.
 use crate::token::HoldToken;
 use base::refusal::Refusal;
-use clocking::core::Core;
+use clocking::state::Core;
 use memory::Memory;
 use predictor::Predictor;
 use sequential::record::Retired;

@@ -3,9 +3,9 @@ ghost use Rattle.std.specs.Prelude.{◌≡◌, ℕ, false, ◌&&◌};
 ghost use Rattle.clocking.specs.Clock.{address_of, clock_record};
 ghost use Rattle.clocking.specs.Counting.{stays, moves, rolls_back, is_wait};
 
-use clocking::core::{ClockRecord, Notes};
 use clocking::latch::{Completed, Decoded, Executed, Fetched, Latch, Latches};
 use clocking::stage::Flow;
+use clocking::state::{ClockRecord, Notes};
 use memory::Reply;
 
 /// What stands at an address of the instruction memory.

@@ -2,7 +2,7 @@
 use crate::account::Account;
 use base::log::Log;
 use base::refusal::Refusal;
-use clocking::core::ClockRecord;
+use clocking::state::ClockRecord;
 use memory::Memory;
 use pipeline::machine::RetiredAt;
 use predictor::Predictor;

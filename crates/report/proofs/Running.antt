@@ -5,8 +5,8 @@ use Rattle.base.specs.declared.refusal.Refusal.TheVariants.{FlatSize, LongWait, 
 use Rattle.memory.specs.Meaning.{Meaning}
 use Rattle.sequential.specs.declared.record.Retirement.{Retirement}
 use Rattle.clocking.specs.Ports.{Table}
-use Rattle.clocking.specs.declared.core.ClockRecord.{ClockRecord}
-use Rattle.clocking.specs.declared.core.Event.{Event}
+use Rattle.clocking.specs.declared.state.ClockRecord.{ClockRecord}
+use Rattle.clocking.specs.declared.state.Event.{Event}
 use Rattle.pipeline.specs.Calls.{Logs, logged, retired_at, retired_entries, clock_entries, Blocked, is_stopped, Clocks, start, next, Ended, Ran, RanInto}
 use Rattle.pipeline.specs.Theorem.{Calls, none, run}
 use Rattle.pipeline.specs.declared.machine.Machine.{Machine}

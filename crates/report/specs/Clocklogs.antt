@@ -6,7 +6,7 @@ use Rattle.memory.specs.Flat.{flat_means}
 use Rattle.memory.specs.declared.flat.Flat.{Flat}
 use Rattle.predictor.specs.Tables.{never}
 use Rattle.predictor.specs.declared.never.Never.{Never}
-use Rattle.clocking.specs.declared.core.Event.{Event}
+use Rattle.clocking.specs.declared.state.Event.{Event}
 use Rattle.pipeline.specs.Calls.{Loaded, retired_entries, clock_entries}
 use Rattle.pipeline.specs.Readings.{totals}
 use Rattle.pipeline.specs.Theorem.{Agrees, Calls}

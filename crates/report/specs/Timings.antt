@@ -11,7 +11,7 @@ use Rattle.predictor.specs.declared.gshare.Gshare.{Gshare}
 use Rattle.predictor.specs.declared.never.Never.{Never}
 use Rattle.predictor.specs.declared.tournament.Tournament.{Tournament}
 use Rattle.clocking.specs.Ports.{Table}
-use Rattle.clocking.specs.declared.core.Event.{Event}
+use Rattle.clocking.specs.declared.state.Event.{Event}
 use Rattle.pipeline.specs.Calls.{Loaded, load_fits, retired_entries, clock_entries}
 use Rattle.pipeline.specs.Readings.{totals}
 use Rattle.pipeline.specs.Theorem.{Agrees, Calls}

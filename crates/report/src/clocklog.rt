@@ -4,7 +4,7 @@ ghost use Rattle.memory.specs.Flat.{flat_fits};
 ghost use Rattle.report.specs.Clocklogs.{ClockPrinted, ClocklogAnswer};
 
 use base::log::Log;
-use clocking::core::ClockRecord;
+use clocking::state::ClockRecord;
 use clocktable::table::clock_table;
 use listing::image::{ImageError, padded};
 use memory::Flat;

@@ -2,7 +2,7 @@
 use crate::prints::bytes_of;
 use base::log::Log;
 use base::refusal::Refusal;
-use clocking::core::ClockRecord;
+use clocking::state::ClockRecord;
 use memory::Flat;
 use pipeline::machine::{RetiredAt, check, load};
 use pipeline::pause::pause;

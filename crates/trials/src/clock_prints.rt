@@ -1,7 +1,7 @@
 //! Whole prints of small programs, worked out by hand from the clock rule.
 use crate::prints::bytes_of;
 use base::log::Log;
-use clocking::core::ClockRecord;
+use clocking::state::ClockRecord;
 use clocktable::table::clock_table;
 use listing::image::{ImageError, padded};
 use memory::{Flat, Memory};

@@ -7,7 +7,7 @@ ghost use Rattle.pipeline.specs.Logged.{logs, Tested};
 use crate::machine::{Machine, RetiredAt, Run};
 use base::log::Log;
 use base::refusal::Refusal;
-use clocking::core::{ClockRecord, Event};
+use clocking::state::{ClockRecord, Event};
 use cycle::cycle;
 use memory::Memory;
 use predictor::Predictor;

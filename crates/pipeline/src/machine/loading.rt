@@ -6,9 +6,9 @@ ghost use Rattle.pipeline.specs.Theorem.{Agrees};
 
 use crate::machine::Machine;
 use base::refusal::Refusal;
-use clocking::core::Core;
 use clocking::counts::Counts;
 use clocking::latch::{Latch, Latches};
+use clocking::state::Core;
 use memory::Memory;
 use predictor::Predictor;
 use rv32i::registers::Registers;

@@ -4,7 +4,7 @@ ghost use Rattle.report.specs.Timings.{Shown, outcomes_of};
 
 use crate::lines::{Longest, Outcomes, report};
 use base::log::Log;
-use clocking::core::ClockRecord;
+use clocking::state::ClockRecord;
 use clocktable::table::tables;
 use longrun::gaps::Gaps;
 use longrun::run::{Watch, run_to};

@@ -7,7 +7,7 @@ use Rattle.longrun.specs.LongRuns.{empty_logs}
 use Rattle.longrun.specs.declared.gaps.Gaps.{Gaps}
 use Rattle.pipeline.specs.Logged.{logs}
 use Rattle.pipeline.specs.declared.machine.RetiredAt.{RetiredAt}
-use Rattle.clocking.specs.declared.core.ClockRecord.{ClockRecord}
+use Rattle.clocking.specs.declared.state.ClockRecord.{ClockRecord}
 use Rattle.report.specs.Lines.{report_text}
 use Rattle.report.proofs.Running.{whole_run, logged_shown}
 use Rattle.report.proofs.timing.running.logged.Goals as goal

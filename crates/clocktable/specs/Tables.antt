@@ -66,4 +66,4 @@ unfoldable pub two_tables : List RetiredAt → List ClockRecord → List ℕ
 two_tables rs cs = (retired_head ++ lines retired_line 1 rs) ++ (clock_head ++ lines clock_line 1 cs)
 
 unfoldable pub clock_table : List RetiredAt → List ClockRecord → Option Stop → Totals → List ℕ
-clock_table rs cs stop t = two_tables rs cs ++ end_line stop t
+clock_table rs cs stop t = ((retired_head ++ lines retired_line 1 rs) ++ (clock_head ++ lines clock_line 1 cs)) ++ end_line stop t

@@ -7,8 +7,8 @@ mod calls;
 #[cfg(test)]
 mod clock_prints;
 #[cfg(test)]
+mod instruction_words;
+#[cfg(test)]
 mod machines;
 #[cfg(test)]
 mod prints;
-#[cfg(test)]
-mod words;

@@ -1,10 +1,10 @@
 //! Reads words from standard input and prints the line of assembly of each.
 #![tactic(auto)]
 
+use lines::disassemble_all;
 use std::io;
-use words::disassemble_all;
 
-mod words;
+mod lines;
 
 fn main(rt: HostRuntime) -> io::Result<()> {
     let text = io::read_to_string(rt.alloc(), rt.stdin())?;

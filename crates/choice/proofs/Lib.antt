@@ -1,2 +1,3 @@
+pub mod BoxReplays
 pub mod LayerReplays
 pub mod Stacking

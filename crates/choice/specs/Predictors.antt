@@ -10,10 +10,10 @@ use Rattle.setup.specs.declared.choice.PredictorChoice.{PredictorChoice}
 use Rattle.setup.specs.declared.choice.PredictorChoice.TheVariants.{Simple as OneName, Tournament as TwoNames}
 use Rattle.setup.specs.declared.choice.SimpleChoice.{SimpleChoice}
 use Rattle.setup.specs.declared.choice.SimpleChoice.TheVariants.{Never as NamesNever, Backward as NamesBackward, Bimodal as NamesBimodal, Gshare as NamesGshare}
-use Rattle.choice.specs.declared.predictor.Simple.{Simple}
-use Rattle.choice.specs.declared.predictor.Simple.TheVariants.{Never as IsNever, Backward as IsBackward, Bimodal as IsBimodal, Gshare as IsGshare}
-use Rattle.choice.specs.declared.predictor.Chosen.{Chosen}
-use Rattle.choice.specs.declared.predictor.Chosen.TheVariants.{Simple as IsSimple, Tournament as IsTournament}
+use Rattle.choice.specs.declared.predictors.Simple.{Simple}
+use Rattle.choice.specs.declared.predictors.Simple.TheVariants.{Never as IsNever, Backward as IsBackward, Bimodal as IsBimodal, Gshare as IsGshare}
+use Rattle.choice.specs.declared.predictors.Chosen.{Chosen}
+use Rattle.choice.specs.declared.predictors.Chosen.TheVariants.{Simple as IsSimple, Tournament as IsTournament}
 
 -- ---- by the tables of the kinds, whichever these are
 

@@ -3,6 +3,6 @@
 
 pub mod boxed;
 pub mod layer;
-pub mod predictor;
+pub mod predictors;
 pub mod replies;
 pub mod stack;

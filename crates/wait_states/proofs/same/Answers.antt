@@ -1,4 +1,4 @@
-use Rattle.wait_states.specs.Requests.{request_says}
+use Rattle.wait_states.proofs.Requests.{request_says}
 use Rattle.wait_states.proofs.same.Goals as goal
 
 pub returns : goal.returns

@@ -1,4 +1,4 @@
-use Rattle.choice.specs.BoxLaws.{boxed_replays}
+use Rattle.choice.proofs.BoxReplays.{boxed_replays}
 use Rattle.choice.proofs.LayerReplays.{layer_replays, stack_replays}
 use Rattle.choice.proofs.replies.replies_follow_calls.Goals as goal
 

@@ -1,5 +1,5 @@
 use Rattle.std.proofs.Common.{sym, rules}
-use Rattle.wait_states.specs.Requests.{request_is}
+use Rattle.wait_states.proofs.Requests.{request_is}
 use Rattle.wait_states.proofs.Counting.count.Goals as goal
 
 pub returns-in-Waiting-default : goal.returns-in-Waiting-default

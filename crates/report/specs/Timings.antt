@@ -27,8 +27,8 @@ use Rattle.choice.specs.Predictors.{chosen_table, chosen_fresh}
 use Rattle.choice.specs.Stacks.{stack_means, stack_wait, layers_fit, stack_fits, Built}
 use Rattle.choice.specs.declared.boxed.Boxed.{Boxed}
 use Rattle.choice.specs.declared.layer.Layer.{Layer}
-use Rattle.choice.specs.declared.predictor.Chosen.{Chosen}
-use Rattle.choice.specs.declared.predictor.Simple.{Simple}
+use Rattle.choice.specs.declared.predictors.Chosen.{Chosen}
+use Rattle.choice.specs.declared.predictors.Simple.{Simple}
 use Rattle.report.specs.Finishing.{Finished}
 use Rattle.report.specs.Lines.{report_text}
 use Rattle.report.specs.declared.lines.Longest.{Longest}

@@ -6,7 +6,7 @@ ghost use Rattle.report.specs.Timings.{StackAnswer, DataAnswer, AssemblyAnswer};
 use super::TimingError;
 use crate::lines::Longest;
 use choice::boxed::Boxed;
-use choice::predictor::Chosen;
+use choice::predictors::Chosen;
 use choice::stack::{Stack, build};
 use memory::{Flat, Memory};
 use pipeline::machine::{Machine, check, load};

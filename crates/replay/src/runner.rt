@@ -106,7 +106,7 @@ fn memory<R: Runner>(machine: &R, image: &[u8], account: &mut Account) -> Result
     for bytes in image.chunks_exact(4) {
         let word = word_at(machine, address);
         digest = digest.word(word);
-        if word.to_le_bytes() != bytes {
+        if word.to_le_bytes().as_slice() != bytes {
             changed = changed.wrapping_add(1);
             account.changed(changed, address, word)?;
         }

@@ -1,5 +1,9 @@
-//! Stacks of memories, tried call by call against counts that were worked out by hand.
+//! Stacks of memories: that each call has one reply, and trials call by call against counts that were worked out by hand.
 #![tactic(auto)]
+
+mod replies;
+
+pub use replies::replies_follow_calls;
 
 #[cfg(test)]
 mod tests {

@@ -6,7 +6,7 @@ use Rattle.base.specs.Refusals.{number}
 use Rattle.memory.specs.Flat.{flat_fits}
 use Rattle.pipeline.specs.Calls.{load_fits}
 use Rattle.choice.specs.Predictors.{chosen_table}
-use Rattle.choice.specs.Stacks.{layers_fit, stack_fits}
+use Rattle.choice.specs.Stacks.{layers_fit}
 use Rattle.setup.specs.declared.choice.Setup.{Setup}
 use Rattle.report.specs.Timings.{Stack, means, Shown, Assembled, Timed, StackAnswer, DataAnswer, AssemblyAnswer, refusal_of}
 use Rattle.report.specs.declared.lines.Longest.{Longest}

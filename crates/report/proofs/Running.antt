@@ -1,5 +1,5 @@
 -- A run and the text of it. Assumes nothing.
-use Rattle.std.proofs.Common.{◌≡◌, ℕ, ◌+◌, ◌<◌, ◌≤◌, Bool, true, false, ◌⊎◌, List, [], ◌∷◌, ◌++◌, length, Some, None, Option, sym, refl, ap, ◌∙◌, inl, inr, ⊎_elim, true≢false, arith, length-append}
+use Rattle.std.proofs.Common.{◌≡◌, ℕ, ◌≤◌, Bool, true, false, ◌⊎◌, List, [], ◌∷◌, ◌++◌, length, Some, None, Option, sym, refl, ap, ◌∙◌, inl, inr, ⊎_elim, true≢false, arith, length-append}
 use Rattle.base.specs.declared.refusal.Refusal.{Refusal}
 use Rattle.base.specs.declared.refusal.Refusal.TheVariants.{FlatSize, LongWait, BadStart, Held, Stopped, LogFull, ClocksSpent, WrongToken, NotThere, NoWord}
 use Rattle.memory.specs.Meaning.{Meaning}
@@ -7,7 +7,7 @@ use Rattle.sequential.specs.declared.record.Retirement.{Retirement}
 use Rattle.clocking.specs.Ports.{Table}
 use Rattle.clocking.specs.declared.state.ClockRecord.{ClockRecord}
 use Rattle.clocking.specs.declared.state.Event.{Event}
-use Rattle.pipeline.specs.Calls.{Logs, logged, retired_at, retired_entries, clock_entries, Blocked, is_stopped, Clocks, start, next, Ended, Ran, RanInto}
+use Rattle.pipeline.specs.Calls.{Logs, logged, retired_at, retired_entries, clock_entries, is_stopped, Clocks, start, next, Ended, Ran, RanInto}
 use Rattle.pipeline.specs.Theorem.{Calls, none, run}
 use Rattle.pipeline.specs.declared.machine.Machine.{Machine}
 use Rattle.pipeline.specs.declared.machine.RetiredAt.{RetiredAt}

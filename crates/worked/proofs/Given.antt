@@ -1,5 +1,5 @@
 -- The definitions give the table of worked examples. Assumes nothing.
-use Rattle.std.proofs.Common.{◌≡◌, ℕ, zero, suc, ◌+◌, ◌<◌, true, List, [], ◌∷◌, map, length, get_or, set, replicate, refl, ap, ◌∙◌, arith, length-set, get_or-set_same}
+use Rattle.std.proofs.Common.{◌≡◌, ℕ, zero, suc, ◌<◌, true, List, [], ◌∷◌, map, length, get_or, replicate, refl, ap, ◌∙◌, arith, length-set, get_or-set_same}
 use lib.ListN.{length-replicate}
 use Rattle.memory.specs.declared.flat.Flat.{Flat}
 use Rattle.wait_states.specs.declared.WaitStates.{WaitStates}
@@ -7,7 +7,7 @@ use Rattle.write_buffer.specs.declared.WriteBuffer.{WriteBuffer}
 use Rattle.memory.specs.Flat.{flat_means}
 use Rattle.wait_states.specs.WaitStates.{wait_means}
 use Rattle.write_buffer.specs.WriteBuffer.{buffer_means}
-use Rattle.predictor.specs.Counting.{fresh, counted, stepped, value_at, number_of}
+use Rattle.predictor.specs.Counting.{fresh, counted, stepped, number_of}
 use Rattle.words.specs.Words.{decoded}
 use Rattle.worked.specs.Examples.{words, instructions, counts, counts_at, taken_at, longest, TableGiven}
 

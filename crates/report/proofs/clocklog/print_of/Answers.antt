@@ -1,13 +1,11 @@
-use Rattle.std.proofs.Common.{◌≡◌, ℕ, List, length, replicate, vec_items, string_bytes, sym, refl, ap, ◌∙◌, lit≤}
+use Rattle.std.proofs.Common.{◌≡◌, length, replicate, vec_items, string_bytes, refl, ◌∙◌, lit≤}
 use Rattle.std.proofs.lemmas.Result.{IfOk-weaker}
 use Rattle.base.specs.Logs.{records}
 use Rattle.memory.specs.Flat.{flat_means}
 use Rattle.predictor.specs.Tables.{never}
 use Rattle.clocktable.specs.Tables.{clock_table}
 use Rattle.longrun.specs.LongRuns.{empty_logs}
-use Rattle.pipeline.specs.Calls.{Logs, logged, Ran}
 use Rattle.pipeline.specs.Logged.{logs}
-use Rattle.pipeline.specs.Theorem.{none, run}
 use Rattle.report.specs.Clocklogs.{ClockPrinted}
 use Rattle.report.proofs.Running.{whole_run}
 use Rattle.report.proofs.clocklog.print_of.Goals as goal

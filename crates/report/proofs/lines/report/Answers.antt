@@ -1,4 +1,4 @@
-use Rattle.std.proofs.Common.{◌≡◌, ℕ, List, ap, ◌∙◌}
+use Rattle.std.proofs.Common.{◌≡◌, ℕ, ◌∙◌}
 use Rattle.listing.proofs.Lines.{pushed}
 use Rattle.report.specs.Lines.{bounds_line, report_text}
 use Rattle.report.proofs.lines.report.Goals as goal

@@ -1,10 +1,9 @@
-use Rattle.std.proofs.Common.{◌≡◌, ℕ, ◌≤◌, List, ◌++◌, length, vec_items, vec_len, string_bytes, sym, refl, ap, ◌∙◌, arith}
+use Rattle.std.proofs.Common.{◌≡◌, ◌≤◌, List, ◌++◌, length, string_bytes, sym, refl, ap, ◌∙◌, arith}
 use Rattle.listing.proofs.Lines.{pushed}
 use Rattle.base.specs.Logs.{records, room}
 use Rattle.clocktable.specs.Tables.{two_tables}
 use Rattle.longrun.specs.Gaps.{gaps_after}
 use Rattle.longrun.specs.LongRuns.{empty_logs}
-use Rattle.longrun.specs.declared.gaps.Gaps.{Gaps}
 use Rattle.pipeline.specs.Logged.{logs}
 use Rattle.pipeline.specs.declared.machine.RetiredAt.{RetiredAt}
 use Rattle.clocking.specs.declared.state.ClockRecord.{ClockRecord}

@@ -67,6 +67,7 @@ fn clocks_table(heap: Global, clocks: &[ClockRecord]) -> Result<String, AllocErr
 }
 
 /// The two tables of a clocked run: what retired, and the clocks.
+#[tactic(auto, unfolding(crate::specs::Tables::two_tables))]
 pub fn tables(
     heap: Global,
     retired: &[RetiredAt],
@@ -81,6 +82,7 @@ pub fn tables(
 }
 
 /// What a clocked run prints: what retired, the clocks, and how it ended.
+#[tactic(auto, unfolding(crate::specs::Tables::two_tables, crate::specs::Tables::clock_table))]
 pub fn clock_table(
     heap: Global,
     retired: &[RetiredAt],

@@ -1,9 +1,0 @@
-use Rattle.std.proofs.Common.{◌∙◌}
-use Rattle.listing.proofs.Lines.{pushed}
-use Rattle.clocktable.specs.Tables.{two_tables}
-use Rattle.clocktable.proofs.table.tables.Goals as goal
-
-pub returns : goal.returns
-unfolding two_tables
-returns c =
-    pushed _ _ _ _ _ c.in_ok-text.ensures (c.as_str.ensures.value ∙ c.in_ok-table.ensures) c.in_ok-push_str.ensures.bytes

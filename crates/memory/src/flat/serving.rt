@@ -1,8 +1,8 @@
 //! How a flat memory is made, and how it serves.
 ghost use Rattle.std.specs.Prelude.{◌≡◌, ℕ, ◌<◌, ◌&&◌, if◌then◌else◌, vec_len, nat_eq, slice_index};
 ghost use Rattle.memory.specs.Flat.{flat_fits, flat_means};
+ghost use Rattle.memory.specs.FlatLaws.{flat_lawful};
 ghost use Rattle.memory.specs.Meaning.{Checked};
-ghost use Rattle.std.proofs.Common.{rules, arith};
 
 use super::Flat;
 use crate::{Answer, Memory, is_within};
@@ -38,7 +38,7 @@ impl Flat {
 impl Memory for Flat {
     ghost means = { flat_means };
 
-    ghost obeys = { first_of (Prim.search rules, Prim.grind (arith, Self.row.coded.inj)) };
+    ghost obeys = { flat_lawful };
 
     fn read(&mut self, address: u32) -> Answer<u32> {
         if !is_within(self.size, address) {

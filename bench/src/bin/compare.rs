@@ -572,7 +572,7 @@ struct Arguments {
 
 const HELP: &str = "\
 compare [--seed N] [--images N] [--clocklog] [PROGRAM]
-PROGRAM is the proved one: ../target/bin/timing, or with --clocklog ../target/bin/clocklog.
+PROGRAM is the proved one: ../crates/timing/out/timing, or with --clocklog ../crates/clocklog/out/clocklog.
 ";
 
 fn arguments() -> Option<Arguments> {
@@ -601,9 +601,9 @@ fn main() -> io::Result<ExitCode> {
         return Ok(ExitCode::from(2));
     };
     let default = if arguments.clocklog {
-        "../target/bin/clocklog"
+        "../crates/clocklog/out/clocklog"
     } else {
-        "../target/bin/timing"
+        "../crates/timing/out/timing"
     };
     let path = arguments.program.as_deref().unwrap_or(default);
     let mut tally = Tally::default();

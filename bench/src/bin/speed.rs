@@ -100,11 +100,11 @@ fn run(program: &Path, words: &[String], image: &[u8]) -> io::Result<(f64, Strin
 
 const HELP: &str = "\
 speed [--clocks N] [--rounds N] [PROGRAM]
-PROGRAM is the proved one: ../target/bin/timing.
+PROGRAM is the proved one: ../crates/timing/out/timing.
 ";
 
 fn arguments() -> Option<(u32, u32, String)> {
-    let (mut clocks, mut rounds, mut program) = (50_000_000, 3, "../target/bin/timing".to_string());
+    let (mut clocks, mut rounds, mut program) = (50_000_000, 3, "../crates/timing/out/timing".to_string());
     let mut words = std::env::args().skip(1);
     while let Some(word) = words.next() {
         match word.as_str() {

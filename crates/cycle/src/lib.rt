@@ -2,7 +2,7 @@
 #![tactic(auto)]
 
 ghost use Rattle.std.specs.Prelude.{◌≡◌, ◌<◌, None};
-ghost use Rattle.clocking.specs.Clock.{Moved, Halted};
+ghost use Rattle.clocking.specs.Clock.{Moved, Halted, Cycled};
 ghost use Rattle.clocking.specs.Counting.{Counted};
 ghost use Rattle.clocking.specs.Stages.{decode_stage, values_in_flight, x_result};
 ghost use Rattle.cycle.specs.Cycles.{Cycles};
@@ -121,6 +121,17 @@ fn advance<P: Predictor, I: Memory, D: Memory>(core: &mut Core<P, I, D>) -> Even
     Event { clock, retirement }
 }
 
+/// One clock of a core that has not stopped and has clocks left: what it does to the core, and what it tells.
+fn cycled<P: Predictor, I: Memory, D: Memory>(core: &mut Core<P, I, D>) -> Event
+    requires { (core.old.stopped ≡ None) × (core.old.counts.clocks < 4294967295) }
+    ensures { Cycled P.Predictor.table I.Memory.means D.Memory.means core.old result core.new }
+{
+    match stop_of(&core.latches.w) {
+        Some(stop) => halt(core, stop),
+        None => advance(core),
+    }
+}
+
 /// One clock: what it does to the core, and what it tells. A core that has stopped or has made all its clocks stays as it
 /// is, and tells nothing.
 pub fn cycle<P: Predictor, I: Memory, D: Memory>(core: &mut Core<P, I, D>) -> Option<Event>
@@ -129,8 +140,5 @@ pub fn cycle<P: Predictor, I: Memory, D: Memory>(core: &mut Core<P, I, D>) -> Op
     if core.stopped.is_some() || core.counts.clocks == u32::MAX {
         return None;
     }
-    Some(match stop_of(&core.latches.w) {
-        Some(stop) => halt(core, stop),
-        None => advance(core),
-    })
+    Some(cycled(core))
 }

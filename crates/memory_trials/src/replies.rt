@@ -8,7 +8,7 @@ use memory::{Memory, flat_replies_follow_calls};
 use wait_states::wait_states_replies_follow_calls;
 use write_buffer::write_buffer_replies_follow_calls;
 
-/// A theorem, with no code: what a flat memory replies follows from the calls that it was made, and so it is of a layer, if it is so of the memory below.
+/// A theorem, over the three that it calls: what a flat memory replies follows from the calls that it was made, and so it is of a layer, if it is so of the memory below.
 pub fn replies_follow_calls<M: Memory>()
     ensures flat { Replays flat_means }
     ensures wait_states { Replays M.Memory.means → Replays (wait_means M.Memory.means) }

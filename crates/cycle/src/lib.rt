@@ -122,7 +122,7 @@ fn advance<P: Predictor, I: Memory, D: Memory>(core: &mut Core<P, I, D>) -> Even
 }
 
 /// One clock of a core that has not stopped and has clocks left: what it does to the core, and what it tells.
-fn cycled<P: Predictor, I: Memory, D: Memory>(core: &mut Core<P, I, D>) -> Event
+fn cycle<P: Predictor, I: Memory, D: Memory>(core: &mut Core<P, I, D>) -> Event
     requires { (core.old.stopped ≡ None) × (core.old.counts.clocks < 4294967295) }
     ensures { Cycled P.Predictor.table I.Memory.means D.Memory.means core.old result core.new }
 {
@@ -134,11 +134,11 @@ fn cycled<P: Predictor, I: Memory, D: Memory>(core: &mut Core<P, I, D>) -> Event
 
 /// One clock: what it does to the core, and what it tells. A core that has stopped or has made all its clocks stays as it
 /// is, and tells nothing.
-pub fn cycle<P: Predictor, I: Memory, D: Memory>(core: &mut Core<P, I, D>) -> Option<Event>
+pub fn checked_cycle<P: Predictor, I: Memory, D: Memory>(core: &mut Core<P, I, D>) -> Option<Event>
     ensures { Cycles P.Predictor.table I.Memory.means D.Memory.means core.old result core.new }
 {
     if core.stopped.is_some() || core.counts.clocks == u32::MAX {
         return None;
     }
-    Some(cycled(core))
+    Some(cycle(core))
 }

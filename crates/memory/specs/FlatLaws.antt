@@ -10,17 +10,17 @@ use Rattle.memory.specs.Flat.{flat_view, flat_means}
 use Rattle.memory.specs.Meaning.{Lawful, Served, Settled}
 
 -- what it settles at once keeps the rule of the request
-settled : (m n : Flat) (q : Request) (r : Reply) → Settled flat_view m q r n → Served flat_view m q r n
-settled m n q (Word w) h = h
-settled m n q Done h = h
-settled m n q Wait h = absurd h
-settled m n q Outside h = h
+at_once : (m n : Flat) (q : Request) (r : Reply) → Settled flat_view m q r n → Served flat_view m q r n
+at_once m n q (Word w) h = h
+at_once m n q Done h = h
+at_once m n q Wait h = absurd h
+at_once m n q Outside h = h
 
 pub flat_lawful : Lawful flat_means
 flat_lawful = record {
   aligned = λ m. m.aligned;
   fits = λ m x. mod-lt _ {m = 256} (lit< tt);
   patient = λ m q. zero-le;
-  serve = settled;
+  serve = at_once;
   idle = λ m n h. h;
 }

@@ -8,7 +8,7 @@ use crate::machine::{Machine, RetiredAt, Run};
 use base::log::Log;
 use base::refusal::Refusal;
 use clocking::state::{ClockRecord, Event};
-use cycle::cycle;
+use cycle::checked_cycle;
 use memory::Memory;
 use predictor::Predictor;
 
@@ -63,7 +63,7 @@ impl<P: Predictor, I: Memory, D: Memory> Machine<P, I, D> {
         if let Some(why) = self.blocked(retirements, clocks) {
             return Err(why);
         }
-        match cycle(&mut self.core) {
+        match checked_cycle(&mut self.core) {
             Some(event) => {
                 record(event, retirements, clocks);
                 Ok(())

@@ -11,6 +11,7 @@ use setup::message::{HELP, fault_text};
 use setup::options::{Command, command_of};
 use std::env;
 use std::io::Read;
+use std::process::ExitCode;
 use std::time::Instant;
 
 /// How many clocks pass between two looks at the time.
@@ -112,10 +113,10 @@ fn work(rt: &HostRuntime) -> anyhow::Result<bool> {
     }
 }
 
-fn main(rt: HostRuntime) -> anyhow::Result<()> {
+fn main(rt: HostRuntime) -> anyhow::Result<ExitCode> {
     if work(&rt)? {
-        Ok(())
+        Ok(ExitCode::SUCCESS)
     } else {
-        Err(anyhow!("refused"))
+        Ok(ExitCode::FAILURE)
     }
 }

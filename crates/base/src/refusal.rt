@@ -1,30 +1,33 @@
 //! Why a call is refused.
-ghost use Rattle.std.specs.Prelude.{◌≡◌};
-ghost use Rattle.base.specs.Refusals.{number};
+ghost use Rattle.std.specs.Prelude.{◌≡◌, Some};
+ghost use Rattle.base.specs.Refusals.{number, refused_text};
 
-/// A call that is refused says why, and alters nothing.
+use std::error::Error;
+use std::fmt;
+
+/// A call that is refused says why, and alters nothing. Each reason has the number that programs print.
 #[derive(Clone, Copy, PartialEq, Eq, Debug)]
 pub enum Refusal {
     /// A flat memory's size is no multiple of 16 from 16 to 65536.
-    FlatSize,
+    FlatSize = 1,
     /// More than 15 wait states, or a layer's longest wait above 4095.
-    LongWait,
+    LongWait = 2,
     /// A serial above 65535, or a start that is no multiple of 4 or outside the instruction memory.
-    BadStart,
+    BadStart = 3,
     /// The machine is held.
-    Held,
+    Held = 4,
     /// The machine has stopped.
-    Stopped,
+    Stopped = 5,
     /// A log has no slot left.
-    LogFull,
+    LogFull = 6,
     /// The machine has made 4294967295 clocks.
-    ClocksSpent,
+    ClocksSpent = 7,
     /// The machine is not held, or its token is another.
-    WrongToken,
+    WrongToken = 8,
     /// A register above 31, a data byte outside the memory, a slot that is not filled.
-    NotThere,
+    NotThere = 9,
     /// A field that no instruction word holds.
-    NoWord,
+    NoWord = 10,
 }
 
 impl Refusal {
@@ -32,17 +35,16 @@ impl Refusal {
     pub fn number(self) -> u32
         ensures { result ≡ number self }
     {
-        match self {
-            Refusal::FlatSize => 1,
-            Refusal::LongWait => 2,
-            Refusal::BadStart => 3,
-            Refusal::Held => 4,
-            Refusal::Stopped => 5,
-            Refusal::LogFull => 6,
-            Refusal::ClocksSpent => 7,
-            Refusal::WrongToken => 8,
-            Refusal::NotThere => 9,
-            Refusal::NoWord => 10,
-        }
+        self as u32
     }
 }
+
+impl fmt::Display for Refusal {
+    ghost output = { λ why. Some (refused_text why) };
+
+    fn fmt<W: fmt::Write>(&self, f: &mut fmt::Formatter<W>) -> fmt::Result {
+        write!(f, "refused {}", self.number())
+    }
+}
+
+impl Error for Refusal {}

@@ -1,7 +1,7 @@
 -- What a memory on the heap replies follows from the calls, if it does elsewhere. Assumes nothing.
 use Rattle.std.proofs.Common.{List, Option}
 use Rattle.base.specs.declared.bus.Request.{Request}
-use Rattle.memory.specs.declared.Reply.{Reply}
+use Rattle.memory.specs.Meaning.{Reply}
 use Rattle.memory.specs.Meaning.{Meaning}
 use Rattle.memory.specs.Runs.{Runs, none, asked, idled, Replays}
 use Rattle.choice.specs.declared.boxed.Boxed.{Boxed}

@@ -1,7 +1,7 @@
 -- What a chosen layer replies follows from the calls, if it does below. Assumes nothing.
 use Rattle.std.proofs.Common.{◌≡◌, List, Option, refl, rules}
 use Rattle.base.specs.declared.bus.Request.{Request}
-use Rattle.memory.specs.declared.Reply.{Reply}
+use Rattle.memory.specs.Meaning.{Reply}
 use Rattle.memory.specs.Flat.{flat_means}
 use Rattle.memory.specs.Meaning.{Meaning, Lawful}
 use Rattle.memory.specs.Runs.{Runs, none, asked, idled, Replays}

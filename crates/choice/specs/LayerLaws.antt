@@ -1,7 +1,7 @@
 -- A layer that is chosen at run time keeps the rules, if the memory below does. Assumes nothing.
 use Rattle.std.specs.Prelude.{◌≡◌, ℕ, ◌%◌, ◌<◌, ◌≤◌}
 use Rattle.base.specs.declared.bus.Request.{Request}
-use Rattle.memory.specs.declared.Reply.{Reply}
+use Rattle.memory.specs.Meaning.{Reply}
 use Rattle.memory.specs.Meaning.{Meaning, Lawful, View, Same, Served}
 use Rattle.wait_states.specs.WaitLaws.{wait_lawful}
 use Rattle.write_buffer.specs.BufferLaws.{buffer_lawful}

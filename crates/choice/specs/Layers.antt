@@ -3,7 +3,7 @@ use Rattle.std.specs.Prelude.{◌≡◌, ℕ, ◌+◌, ◌*◌, Bool, true, fals
 use Rattle.base.specs.Refusals.{Says}
 use Rattle.base.specs.declared.bus.Request.{Request}
 use Rattle.base.specs.declared.refusal.Refusal.{Refusal}
-use Rattle.memory.specs.declared.Reply.{Reply}
+use Rattle.memory.specs.Meaning.{Reply}
 use Rattle.wait_states.specs.declared.Counting.TheVariants.{Nothing}
 use Rattle.wait_states.specs.declared.WaitStates.{WaitStates}
 use Rattle.write_buffer.specs.declared.WriteBuffer.{WriteBuffer}

@@ -3,8 +3,9 @@ use Rattle.std.proofs.Common.{◌≡◌, ℕ, ◌+◌, ◌-◌, ◌<◌, ◌≤�
 use mathlib.Core.Path.{fun_ext}
 use Rattle.base.specs.declared.bus.Request.{Request}
 use Rattle.memory.specs.Meaning.{Meaning, Lawful}
-use Rattle.memory.specs.declared.Reply.{Reply}
-use Rattle.memory.specs.declared.Reply.TheVariants.{Word, Done, Wait, Outside}
+use Rattle.memory.specs.Meaning.{Reply}
+use Rattle.memory.specs.declared.Answer.TheVariants.{Word, Done}
+use Rattle.memory.specs.declared.Unserved.TheVariants.{Wait, Outside}
 use Rattle.rv32i.specs.declared.registers.Registers.{Registers}
 use Rattle.sequential.specs.Runs.{Steps, none, more}
 use Rattle.sequential.specs.Sequential.{State, World}
@@ -39,20 +40,20 @@ use Rattle.clocking.proofs.Served.{Bytes}
 
 arrives_so : {P : Type 0} (table : Table P) (p : P) (f : ℕ) (a : Option Reply) → Arrives f a (arrival table p f a)
 arrives_so table p f None = tt
-arrives_so table p f (Some (Word w)) = (refl, refl, refl)
-arrives_so table p f (Some Done) = tt
-arrives_so table p f (Some Wait) = tt
-arrives_so table p f (Some Outside) = tt
+arrives_so table p f (Some (Ok (Word w))) = (refl, refl, refl)
+arrives_so table p f (Some (Ok Done)) = tt
+arrives_so table p f (Some (Err Wait)) = tt
+arrives_so table p f (Some (Err Outside)) = tt
 
 -- reading does not change the bytes
 text_kept : (size f : ℕ) (plan : Fetching) (a : Option Reply) (u v : ℕ → ℕ) → Bytes size (fetch_request f plan) a u v → v ≡ u
 text_kept size f Idle a u v h = idle_same size a u v h
 text_kept size f (Fault c) a u v h = idle_same size a u v h
 text_kept size f Ask None u v h = absurd h
-text_kept size f Ask (Some (Word w)) u v h = h.2
-text_kept size f Ask (Some Done) u v h = absurd h
-text_kept size f Ask (Some Wait) u v h = h
-text_kept size f Ask (Some Outside) u v h = h.1
+text_kept size f Ask (Some (Ok (Word w))) u v h = h.2
+text_kept size f Ask (Some (Ok Done)) u v h = absurd h
+text_kept size f Ask (Some (Err Wait)) u v h = h
+text_kept size f Ask (Some (Err Outside)) u v h = h.1
 
 -- ---- what retires is a step of the sequential machine
 

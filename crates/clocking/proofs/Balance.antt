@@ -1,8 +1,9 @@
 -- What is fetched has retired, was dropped or stands in a latch. Assumes nothing.
 use Rattle.std.proofs.Common.{◌≡◌, ℕ, ◌+◌, ◌≤◌, Bool, true, false, eqb, Some, None, Ok, Err, Option, Result, refl, arith}
 use Rattle.base.specs.declared.bus.Request.{Request}
-use Rattle.memory.specs.declared.Reply.{Reply}
-use Rattle.memory.specs.declared.Reply.TheVariants.{Word, Done, Wait, Outside}
+use Rattle.memory.specs.Meaning.{Reply}
+use Rattle.memory.specs.declared.Answer.TheVariants.{Word, Done}
+use Rattle.memory.specs.declared.Unserved.TheVariants.{Wait, Outside}
 use Rattle.rv32i.specs.Effects.{first_source, second_source}
 use Rattle.rv32i.specs.declared.cause.Cause.{Cause}
 use Rattle.rv32i.specs.declared.instruction.Instruction.{Instruction}
@@ -35,10 +36,10 @@ staying RollsBack l = 0
 told_balance : (e : Executed) (o : Result (Option Request) Cause) (r : Option Reply) → occupied (told e o r).w + staying (told e o r).flow (Full e) ≡ 1
 told_balance e (Err c) r = refl
 told_balance e (Ok q) None = refl
-told_balance e (Ok q) (Some (Word w)) = refl
-told_balance e (Ok q) (Some Done) = refl
-told_balance e (Ok q) (Some Wait) = refl
-told_balance e (Ok q) (Some Outside) = refl
+told_balance e (Ok q) (Some (Ok (Word w))) = refl
+told_balance e (Ok q) (Some (Ok Done)) = refl
+told_balance e (Ok q) (Some (Err Wait)) = refl
+told_balance e (Ok q) (Some (Err Outside)) = refl
 
 data_balance : (m : Latch Executed) (o : Result (Option Request) Cause) (r : Option Reply) → occupied (data_stage m o r).w + staying (data_stage m o r).flow m ≡ occupied m
 data_balance Empty o r = refl

@@ -2,8 +2,9 @@
 use Rattle.std.proofs.Common.{◌≡◌, ℕ, ◌+◌, ◌%◌, ◌<◌, ◌≤◌, Bool, true, false, cond, eqb, ltb, ◌⊎◌, Some, None, Ok, Err, Option, Result, refl, inl, inr, arith}
 use Rattle.base.specs.declared.bus.Request.{Request}
 use Rattle.base.specs.declared.bus.Request.TheVariants.{Read}
-use Rattle.memory.specs.declared.Reply.{Reply}
-use Rattle.memory.specs.declared.Reply.TheVariants.{Word, Done as Did, Wait, Outside}
+use Rattle.memory.specs.Meaning.{Reply}
+use Rattle.memory.specs.declared.Answer.TheVariants.{Word, Done as Did}
+use Rattle.memory.specs.declared.Unserved.TheVariants.{Wait, Outside}
 use Rattle.rv32i.specs.declared.cause.Cause.{Cause}
 use Rattle.rv32i.specs.declared.register.Register.{Register}
 use Rattle.clocking.specs.declared.latch.Fetched.{Fetched}
@@ -123,12 +124,12 @@ module _ (size text most least : ℕ) (p p' t t' : Request → ℕ) (small : (q 
       → after (told e o r).w (execute_stage (Full e) x (told e o r).flow).m x' d' f' < 2 + waits_for p (sent (request size e.access e.result e.b))
   by_m e x x' d' f' (Err c) r h = omega arith
   by_m e x x' d' f' (Ok q) None h = omega arith
-  by_m e x x' d' f' (Ok q) (Some (Word w)) h = omega arith
-  by_m e x x' d' f' (Ok q) (Some Did) h = omega arith
-  by_m e x x' d' f' (Ok q) (Some Outside) h = omega arith
-  by_m e Empty x' d' f' (Ok q) (Some Wait) h = omega arith
-  by_m e (Faulting a c) x' d' f' (Ok q) (Some Wait) h = omega arith
-  by_m e (Full y) x' d' f' (Ok q) (Some Wait) h = omega arith
+  by_m e x x' d' f' (Ok q) (Some (Ok (Word w))) h = omega arith
+  by_m e x x' d' f' (Ok q) (Some (Ok Did)) h = omega arith
+  by_m e x x' d' f' (Ok q) (Some (Err Outside)) h = omega arith
+  by_m e Empty x' d' f' (Ok q) (Some (Err Wait)) h = omega arith
+  by_m e (Faulting a c) x' d' f' (Ok q) (Some (Err Wait)) h = omega arith
+  by_m e (Full y) x' d' f' (Ok q) (Some (Err Wait)) h = omega arith
 
   -- one in X goes to M
   by_turn : (e : Executed) (b : Bool) (x' : Latch Decoded) (d' : Latch Fetched) (f' : ℕ) → after Empty (turned e b).m x' d' f' < 3 + most
@@ -159,10 +160,10 @@ module _ (size text most least : ℕ) (p p' t t' : Request → ℕ) (small : (q 
 
     asked : (a : Option Reply) → eqb (f % 4) 0 ≡ true → ltb f text ≡ true → Bytes text (Some (Read f)) a u v → Worn a (Some (Read f)) t t' → Arrived (fetches_on f Ask (arrival table q f a))
     asked None e i h w = absurd h
-    asked (Some (Word x)) e i h w = inl tt
-    asked (Some Did) e i h w = absurd h
-    asked (Some Wait) e i h w = inr (refl, refl, rw (asks_read t text f e i, asks_read t' text f e i) w)
-    asked (Some Outside) e i h w = absurd (both_ways _ h.0 (and_from _ _ e i))
+    asked (Some (Ok (Word x))) e i h w = inl tt
+    asked (Some (Ok Did)) e i h w = absurd h
+    asked (Some (Err Wait)) e i h w = inr (refl, refl, rw (asks_read t text f e i, asks_read t' text f e i) w)
+    asked (Some (Err Outside)) e i h w = absurd (both_ways _ h.0 (and_from _ _ e i))
 
     arrived_by : (a : Option Reply) (b d : Bool) → eqb (f % 4) 0 ≡ b → ltb f text ≡ d → Bytes text (fetch_request f (cond b (cond d Ask (Fault FetchOutside)) (Fault JumpMisaligned))) a u v
         → Worn a (fetch_request f (cond b (cond d Ask (Fault FetchOutside)) (Fault JumpMisaligned))) t t' → Arrived (fetches_on f (cond b (cond d Ask (Fault FetchOutside)) (Fault JumpMisaligned)) (arrival table q f a))
@@ -304,10 +305,10 @@ module _ (size text most least : ℕ) (p p' t t' : Request → ℕ) (small : (q 
         → TextBy (record { f = f; d = d; x = x; m = Full e; w = w }) (told e o r) → Lulls (record { f = f; d = d; x = x; m = Full e; w = w }) (told e o r)
     lull_told f d x e w (Err c) r h = tt
     lull_told f d x e w (Ok n) None h = lull_by f d x e w (complete e e.result) h
-    lull_told f d x e w (Ok n) (Some (Word v)) h = lull_by f d x e w (complete e (loaded e.access e.result v)) h
-    lull_told f d x e w (Ok n) (Some Did) h = lull_by f d x e w (complete e e.result) h
-    lull_told f d x e w (Ok n) (Some Wait) h = tt
-    lull_told f d x e w (Ok n) (Some Outside) h = lull_by f d x e w (complete e e.result) h
+    lull_told f d x e w (Ok n) (Some (Ok (Word v))) h = lull_by f d x e w (complete e (loaded e.access e.result v)) h
+    lull_told f d x e w (Ok n) (Some (Ok Did)) h = lull_by f d x e w (complete e e.result) h
+    lull_told f d x e w (Ok n) (Some (Err Wait)) h = tt
+    lull_told f d x e w (Ok n) (Some (Err Outside)) h = lull_by f d x e w (complete e e.result) h
 
     pub lulls : (f : ℕ) (d : Latch Fetched) (x : Latch Decoded) (m : Latch Executed) (w : Latch Completed) → TextAsked (record { f = f; d = d; x = x; m = m; w = w })
         → let n : Latches = latches_after size text g (record { f = f; d = d; x = x; m = m; w = w }) reply (arrival table q f answer) in

@@ -2,8 +2,9 @@
 use Rattle.std.proofs.Common.{◌≡◌, ℕ, Some, None, Ok, Err, Option, Result, sym, refl, ap, ◌∙◌, subst}
 use Rattle.base.specs.declared.bus.Request.{Request}
 use Rattle.base.specs.declared.bus.Request.TheVariants.{Read, Write}
-use Rattle.memory.specs.declared.Reply.{Reply}
-use Rattle.memory.specs.declared.Reply.TheVariants.{Word, Done as Did, Wait, Outside}
+use Rattle.memory.specs.Meaning.{Reply}
+use Rattle.memory.specs.declared.Answer.TheVariants.{Word, Done as Did}
+use Rattle.memory.specs.declared.Unserved.TheVariants.{Wait, Outside}
 use Rattle.rv32i.specs.declared.cause.Cause.{Cause}
 use Rattle.rv32i.specs.declared.register.Register.{Register}
 use Rattle.sequential.specs.Sequential.{State, World, then}
@@ -41,23 +42,23 @@ Completes s n e v o = (Ok (complete e v) ≡ then o (λ d. Ok (complete d.run d.
 
 abbrev GoodOf : State → (ℕ → ℕ) → Executed → Option Reply → Result Done Cause → Type 0
 GoodOf s n e None o = Completes s n e e.result o
-GoodOf s n e (Some (Word w)) o = Completes s n e (loaded e.access e.result w) o
-GoodOf s n e (Some Did) o = Completes s n e e.result o
-GoodOf s n e (Some Wait) o = n ≡ s.bytes
-GoodOf s n e (Some Outside) o = ⊥
+GoodOf s n e (Some (Ok (Word w))) o = Completes s n e (loaded e.access e.result w) o
+GoodOf s n e (Some (Ok Did)) o = Completes s n e e.result o
+GoodOf s n e (Some (Err Wait)) o = n ≡ s.bytes
+GoodOf s n e (Some (Err Outside)) o = ⊥
 
 good_by : (size : ℕ) (s : State) (n : ℕ → ℕ) (e : Executed) (q : Option Request) → InRange size (Ok q) → (t : Option Reply) → Bytes size q t s.bytes n → GoodOf s n e t (settled_by s.bytes e (Ok q))
 good_by size s n e None i None h = (refl, h)
 good_by size s n e None i (Some r) h = absurd h
 good_by size s n e (Some q) i None h = absurd h
-good_by size s n e (Some (Read a)) i (Some (Word w)) h = rw h.1 (refl, h.2)
-good_by size s n e (Some (Read a)) i (Some Did) h = absurd h
-good_by size s n e (Some (Read a)) i (Some Wait) h = h
-good_by size s n e (Some (Read a)) i (Some Outside) h = absurd (both_ways _ h.0 i)
-good_by size s n e (Some (Write a v l)) i (Some (Word w)) h = absurd h
-good_by size s n e (Some (Write a v l)) i (Some Did) h = (refl, h.1)
-good_by size s n e (Some (Write a v l)) i (Some Wait) h = h
-good_by size s n e (Some (Write a v l)) i (Some Outside) h = absurd (both_ways _ h.0 i)
+good_by size s n e (Some (Read a)) i (Some (Ok (Word w))) h = rw h.1 (refl, h.2)
+good_by size s n e (Some (Read a)) i (Some (Ok Did)) h = absurd h
+good_by size s n e (Some (Read a)) i (Some (Err Wait)) h = h
+good_by size s n e (Some (Read a)) i (Some (Err Outside)) h = absurd (both_ways _ h.0 i)
+good_by size s n e (Some (Write a v l)) i (Some (Ok (Word w))) h = absurd h
+good_by size s n e (Some (Write a v l)) i (Some (Ok Did)) h = (refl, h.1)
+good_by size s n e (Some (Write a v l)) i (Some (Err Wait)) h = h
+good_by size s n e (Some (Write a v l)) i (Some (Err Outside)) h = absurd (both_ways _ h.0 i)
 
 pub idle_same : (size : ℕ) (t : Option Reply) (m n : ℕ → ℕ) → Bytes size None t m n → n ≡ m
 idle_same size None m n h = h
@@ -69,18 +70,18 @@ module _ (world : World) where
 
   abbrev Good : State → (ℕ → ℕ) → Executed → Option Reply → Type 0
   Good s n e None = Comes s n e e.result
-  Good s n e (Some (Word w)) = Comes s n e (loaded e.access e.result w)
-  Good s n e (Some Did) = Comes s n e e.result
-  Good s n e (Some Wait) = n ≡ s.bytes
-  Good s n e (Some Outside) = ⊥
+  Good s n e (Some (Ok (Word w))) = Comes s n e (loaded e.access e.result w)
+  Good s n e (Some (Ok Did)) = Comes s n e e.result
+  Good s n e (Some (Err Wait)) = n ≡ s.bytes
+  Good s n e (Some (Err Outside)) = ⊥
 
   good_done : (s : State) (n : ℕ → ℕ) (e : Executed) (t : Option Reply) → GoodOf s n e t (done_at world s) → Good s n e t
   unfolding completed_at after_at
   good_done s n e None h = h
-  good_done s n e (Some (Word v)) h = h
-  good_done s n e (Some Did) h = h
-  good_done s n e (Some Wait) h = h
-  good_done s n e (Some Outside) h = h
+  good_done s n e (Some (Ok (Word v))) h = h
+  good_done s n e (Some (Ok Did)) h = h
+  good_done s n e (Some (Err Wait)) h = h
+  good_done s n e (Some (Err Outside)) h = h
 
   done_so : (s : State) (e : Executed) (o : Result (Option Request) Cause) → Ok e ≡ executed_at world s → request world.data_size e.access e.result e.b ≡ o → done_at world s ≡ settled_by s.bytes e o
   unfolding done_at settle
@@ -155,9 +156,9 @@ module _ (world : World) where
 
     placed : (t : Option Reply) → Good s n e t → DataKept s (Full e) n (answered e t)
     placed None h = finishes e.result h
-    placed (Some (Word w)) h = finishes (loaded e.access e.result w) h
-    placed (Some Did) h = finishes e.result h
-    placed (Some Wait) h = record {
+    placed (Some (Ok (Word w))) h = finishes (loaded e.access e.result w) h
+    placed (Some (Ok Did)) h = finishes e.result h
+    placed (Some (Err Wait)) h = record {
       w = tt;
       memory = h;
       m = i;
@@ -165,7 +166,7 @@ module _ (world : World) where
       back = tt;
       source = λ f k. known_wait s e (after_at world s) (rw i (runs world s)) f k;
     }
-    placed (Some Outside) h = absurd h
+    placed (Some (Err Outside)) h = absurd h
 
     stays_so : (c : Cause) (r : Reach) → Pairs s (Err c) r → n ≡ s.bytes → n ≡ bytes_at s r
     stays_so c (Err k) p h = h

@@ -2,8 +2,9 @@
 use Rattle.std.proofs.Common.{◌≡◌, ℕ, ◌%◌, Bool, true, false, cond, eqb, ltb, Some, None, Ok, Err, Option, sym, refl, ap, ◌∙◌, eqb-true}
 use Rattle.base.specs.Bytes.{within, word}
 use Rattle.base.specs.declared.bus.Request.TheVariants.{Read}
-use Rattle.memory.specs.declared.Reply.{Reply}
-use Rattle.memory.specs.declared.Reply.TheVariants.{Word, Done as Did, Wait, Outside}
+use Rattle.memory.specs.Meaning.{Reply}
+use Rattle.memory.specs.declared.Answer.TheVariants.{Word, Done as Did}
+use Rattle.memory.specs.declared.Unserved.TheVariants.{Wait, Outside}
 use Rattle.sequential.specs.Sequential.{State, World, then}
 use Rattle.clocking.specs.declared.latch.Fetched.{Fetched}
 use Rattle.clocking.specs.declared.latch.Latch.{Latch}
@@ -39,10 +40,10 @@ turned_leads (Some n) f q h = h
 abbrev pub Arrives : ℕ → Option Reply → Option Fetched → Type 0
 Arrives f t None = Unit {0}
 Arrives f None (Some x) = ⊥
-Arrives f (Some (Word w)) (Some x) = (x.address ≡ f) × (x.word ≡ w) × (x.issued ≡ issued w)
-Arrives f (Some Did) (Some x) = ⊥
-Arrives f (Some Wait) (Some x) = ⊥
-Arrives f (Some Outside) (Some x) = ⊥
+Arrives f (Some (Ok (Word w))) (Some x) = (x.address ≡ f) × (x.word ≡ w) × (x.issued ≡ issued w)
+Arrives f (Some (Ok Did)) (Some x) = ⊥
+Arrives f (Some (Err Wait)) (Some x) = ⊥
+Arrives f (Some (Err Outside)) (Some x) = ⊥
 
 module _ (world : World) where
   pub record FetchKept (q : Reach) (o : FetchOut) : Type 0 where
@@ -64,10 +65,10 @@ module _ (world : World) where
 
   arrives_at : (s : State) (f : ℕ) (x : Fetched) (t : Option Reply) (n : ℕ → ℕ) → Bytes world.text_size (Some (Read f)) t world.text n → Arrives f t (Some x) → f ≡ s.address → Ok x ≡ fetched_at world s x.guess
   arrives_at s f x None n h a l = absurd h
-  arrives_at s f x (Some Did) n h a l = absurd h
-  arrives_at s f x (Some Wait) n h a l = absurd a
-  arrives_at s f x (Some Outside) n h a l = absurd a
-  arrives_at s f x (Some (Word w)) n h a l =
+  arrives_at s f x (Some (Ok Did)) n h a l = absurd h
+  arrives_at s f x (Some (Err Wait)) n h a l = absurd a
+  arrives_at s f x (Some (Err Outside)) n h a l = absurd a
+  arrives_at s f x (Some (Ok (Word w))) n h a l =
       let v : w ≡ word world.text s.address = rw l at h.1 in
       let same : x ≡ record { address = s.address; word = word world.text s.address; issued = issued (word world.text s.address); guess = x.guess } =
       λ i. record { address = (a.0 ∙ l) i; word = (a.1 ∙ v) i; issued = (a.2 ∙ ap issued v) i; guess = x.guess } in

@@ -1,6 +1,6 @@
 -- One clock keeps the chain. Assumes nothing.
 use Rattle.std.proofs.Common.{◌≡◌, ℕ, Bool, true, false, cond, eqb, Some, None, Ok, Err, Option, sym, refl, ap, ◌∙◌, subst, arith}
-use Rattle.memory.specs.declared.Reply.{Reply}
+use Rattle.memory.specs.Meaning.{Reply}
 use Rattle.rv32i.specs.declared.register.Register.{Register}
 use Rattle.sequential.specs.Sequential.{State, World}
 use Rattle.clocking.specs.declared.latch.Fetched.{Fetched}

@@ -2,7 +2,7 @@
 use Rattle.std.specs.Prelude.{◌≡◌, ℕ, true, false, ◌&&◌, is_some, Some, None, Option}
 use Rattle.base.specs.declared.branch.Outcome.{Outcome}
 use Rattle.memory.specs.Meaning.{Meaning}
-use Rattle.memory.specs.declared.Reply.{Reply}
+use Rattle.memory.specs.Meaning.{Reply}
 use Rattle.rv32i.specs.Registers.{written}
 use Rattle.rv32i.specs.declared.register.Register.{Register}
 use Rattle.rv32i.specs.declared.registers.Registers.{Registers}

@@ -1,7 +1,8 @@
 -- What a clock counts, and what it notes. Assumes nothing.
-use Rattle.std.specs.Prelude.{◌≡◌, ℕ, ◌+◌, ◌%◌, ◌^◌, Bool, true, false, Some, None, Option}
-use Rattle.memory.specs.declared.Reply.{Reply}
-use Rattle.memory.specs.declared.Reply.TheVariants.{Word, Done, Wait, Outside}
+use Rattle.std.specs.Prelude.{◌≡◌, ℕ, ◌+◌, ◌%◌, ◌^◌, Bool, true, false, Some, None, Option, Ok, Err}
+use Rattle.memory.specs.Meaning.{Reply}
+use Rattle.memory.specs.declared.Answer.TheVariants.{Word, Done}
+use Rattle.memory.specs.declared.Unserved.TheVariants.{Wait, Outside}
 use Rattle.clocking.specs.declared.counts.Counts.{Counts}
 use Rattle.clocking.specs.declared.latch.Fetched.{Fetched}
 use Rattle.clocking.specs.declared.latch.Latch.{Latch}
@@ -69,7 +70,7 @@ rolls_back RollsBack = true
 
 abbrev pub is_wait : Option Reply → Bool
 is_wait None = false
-is_wait (Some (Word w)) = false
-is_wait (Some Done) = false
-is_wait (Some Wait) = true
-is_wait (Some Outside) = false
+is_wait (Some (Ok (Word w))) = false
+is_wait (Some (Ok Done)) = false
+is_wait (Some (Err Wait)) = true
+is_wait (Some (Err Outside)) = false

@@ -3,8 +3,9 @@ use Rattle.std.specs.Prelude.{◌≡◌, ℕ, Bool, cond, List, [], ◌∷◌, S
 use Rattle.base.specs.declared.branch.Outcome.{Outcome}
 use Rattle.base.specs.declared.bus.Request.{Request}
 use Rattle.memory.specs.Meaning.{Meaning}
-use Rattle.memory.specs.declared.Reply.{Reply}
-use Rattle.memory.specs.declared.Reply.TheVariants.{Word, Done, Wait, Outside}
+use Rattle.memory.specs.Meaning.{Reply}
+use Rattle.memory.specs.declared.Answer.TheVariants.{Word, Done}
+use Rattle.memory.specs.declared.Unserved.TheVariants.{Wait, Outside}
 use Rattle.rv32i.specs.Effects.{following}
 use Rattle.words.specs.Issues.{issued}
 use Rattle.rv32i.specs.Targets.{target_of}
@@ -44,7 +45,7 @@ guess_after table p f (Ok i) = guess_by table p f (target_of i f)
 -- what arrived from the instruction memory
 abbrev pub arrival : {P : Type 0} → Table P → P → ℕ → Option Reply → Option Fetched
 arrival table p f None = None
-arrival table p f (Some (Word w)) = Some (record { address = f; word = w; issued = issued w; guess = guess_after table p f (issued w) })
-arrival table p f (Some Done) = None
-arrival table p f (Some Wait) = None
-arrival table p f (Some Outside) = None
+arrival table p f (Some (Ok (Word w))) = Some (record { address = f; word = w; issued = issued w; guess = guess_after table p f (issued w) })
+arrival table p f (Some (Ok Done)) = None
+arrival table p f (Some (Err Wait)) = None
+arrival table p f (Some (Err Outside)) = None

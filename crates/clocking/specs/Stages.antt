@@ -2,8 +2,9 @@
 use Rattle.std.specs.Prelude.{ℕ, ◌%◌, Bool, true, false, cond, Some, None, Ok, Err, Option, Result, ◌==◌, nat_lt, slice_index}
 use Rattle.base.specs.declared.bus.Request.{Request}
 use Rattle.base.specs.declared.bus.Request.TheVariants.{Read}
-use Rattle.memory.specs.declared.Reply.{Reply}
-use Rattle.memory.specs.declared.Reply.TheVariants.{Word, Done, Wait, Outside}
+use Rattle.memory.specs.Meaning.{Reply}
+use Rattle.memory.specs.declared.Answer.TheVariants.{Word, Done}
+use Rattle.memory.specs.declared.Unserved.TheVariants.{Wait, Outside}
 use Rattle.rv32i.specs.Effects.{following, first_source, second_source, destination, executed, access, request, loaded}
 use Rattle.rv32i.specs.declared.cause.Cause.{Cause}
 use Rattle.rv32i.specs.declared.cause.Cause.TheVariants.{JumpMisaligned, FetchOutside}
@@ -53,10 +54,10 @@ completes_with e v = record { w = Full (complete e v); flow = Moves }
 -- by the memory's reply, none where nothing was asked; a request that is within is never told Outside
 abbrev pub answered : Executed → Option Reply → DataOut
 answered e None = completes_with e e.result
-answered e (Some (Word w)) = completes_with e (loaded e.access e.result w)
-answered e (Some Done) = completes_with e e.result
-answered e (Some Wait) = record { w = Empty; flow = Stays }
-answered e (Some Outside) = completes_with e e.result
+answered e (Some (Ok (Word w))) = completes_with e (loaded e.access e.result w)
+answered e (Some (Ok Done)) = completes_with e e.result
+answered e (Some (Err Wait)) = record { w = Empty; flow = Stays }
+answered e (Some (Err Outside)) = completes_with e e.result
 
 abbrev pub told : Executed → Result (Option Request) Cause → Option Reply → DataOut
 told e (Err c) r = record { w = Faulting e.address c; flow = RollsBack }

@@ -1,7 +1,8 @@
 //! Memories: what any memory is, and the flat one that stands at the bottom of a stack.
 #![tactic(auto)]
 
-ghost use Rattle.std.specs.Prelude.{◌≡◌, ◌≤◌};
+ghost use Rattle.std.specs.Prelude.{◌≡◌, ◌<◌, ◌≤◌};
+ghost use Rattle.base.specs.Refusals.{Says};
 ghost use Rattle.base.specs.Bytes.{within};
 ghost use Rattle.base.specs.declared.bus.Request.TheVariants.{Read, Write};
 ghost use Rattle.memory.specs.Meaning.{Meaning, Lawful, Settled, peeked, place, of_read, of_write};
@@ -10,31 +11,32 @@ ghost use Rattle.memory.specs.Runs.{Repeats};
 mod flat;
 
 use base::bus::{Lanes, Request};
+use base::refusal::Refusal;
 pub use flat::{Flat, flat_replies_follow_calls};
 
 /// The longest wait that a layer may have.
 pub const MOST_WAITS: u32 = 4095;
 
-/// What a memory replies to a request.
+/// What a memory answers to a request that it serves.
 #[derive(Clone, Copy, PartialEq, Eq, Debug)]
-pub enum Reply {
+pub enum Answer {
     /// The word that was read.
     Word(u32),
     /// The write is done.
     Done,
+}
+
+/// Why a memory does not serve a request in a clock.
+#[derive(Clone, Copy, PartialEq, Eq, Debug)]
+pub enum Unserved {
     /// Ask again in the next clock.
     Wait,
     /// No word stands at the address.
     Outside,
 }
 
-/// What a read or a write answers.
-#[derive(Clone, Copy)]
-pub enum Answer<T> {
-    Ready(T),
-    Wait,
-    Outside,
-}
+/// What a memory replies to a request.
+pub type Reply = Result<Answer, Unserved>;
 
 /// A memory. A clock makes one call: a read, a write, or idle.
 pub trait Memory {
@@ -42,11 +44,11 @@ pub trait Memory {
     ghost means: { Meaning Self };
 
     /// Asks for the word at an address.
-    fn read(&mut self, address: u32) -> Answer<u32>
+    fn read(&mut self, address: u32) -> Result<u32, Unserved>
         ensures { means.serves self.old (Read address) (of_read result) self.new };
 
     /// Asks to put the flagged bytes of a word at an address.
-    fn write(&mut self, address: u32, word: u32, lanes: Lanes) -> Answer<()>
+    fn write(&mut self, address: u32, word: u32, lanes: Lanes) -> Result<(), Unserved>
         ensures { means.serves self.old (Write address word lanes) (of_write result) self.new };
 
     /// Passes a clock without a request.
@@ -74,20 +76,12 @@ pub fn ask<M: Memory>(memory: &mut M, request: Request) -> Reply
     ensures { M.Memory.means.serves memory.old request result memory.new }
 {
     match request {
-        Request::Read { address } => match memory.read(address) {
-            Answer::Ready(word) => Reply::Word(word),
-            Answer::Wait => Reply::Wait,
-            Answer::Outside => Reply::Outside,
-        },
+        Request::Read { address } => memory.read(address).map(Answer::Word),
         Request::Write {
             address,
             word,
             lanes,
-        } => match memory.write(address, word, lanes) {
-            Answer::Ready(()) => Reply::Done,
-            Answer::Wait => Reply::Wait,
-            Answer::Outside => Reply::Outside,
-        },
+        } => memory.write(address, word, lanes).map(|()| Answer::Done),
     }
 }
 
@@ -108,11 +102,18 @@ pub fn insist<M: Memory>(memory: &mut M, request: Request) -> Repeated
     let longest = memory.longest();
     for waits in 0..=longest {
         match ask(memory, request) {
-            Reply::Wait => {}
+            Err(Unserved::Wait) => {}
             reply => return Repeated { reply, waits },
         }
     }
     unreachable()
+}
+
+/// The byte at an address; refused where there is none.
+pub fn byte_at<M: Memory>(memory: &M, address: u32) -> Result<u8, Refusal>
+    ensures { Says (λ b. (address < M.Memory.means.view.size memory.now) × (b ≡ M.Memory.means.view.byte memory.now address)) (λ why. (why ≡ 9) × (M.Memory.means.view.size memory.now ≤ address)) result }
+{
+    memory.peek(address).ok_or(Refusal::NotThere)
 }
 
 /// The address that a request names.
@@ -120,8 +121,7 @@ pub fn address_of(request: Request) -> u32
     ensures { result ≡ place request }
 {
     match request {
-        Request::Read { address } => address,
-        Request::Write { address, .. } => address,
+        Request::Read { address } | Request::Write { address, .. } => address,
     }
 }
 

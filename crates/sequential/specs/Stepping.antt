@@ -2,8 +2,9 @@
 use Rattle.std.specs.Prelude.{◌≡◌, ℕ, Some, None, Ok, Err, Option, Result}
 use Rattle.memory.specs.Meaning.{View}
 use Rattle.base.specs.declared.bus.Request.{Request}
-use Rattle.memory.specs.declared.Reply.{Reply}
-use Rattle.memory.specs.declared.Reply.TheVariants.{Word, Done, Wait, Outside}
+use Rattle.memory.specs.Meaning.{Reply}
+use Rattle.memory.specs.declared.Answer.TheVariants.{Word, Done}
+use Rattle.memory.specs.declared.Unserved.TheVariants.{Wait, Outside}
 use Rattle.rv32i.specs.Effects.{loaded}
 use Rattle.rv32i.specs.declared.cause.Cause.{Cause}
 use Rattle.rv32i.specs.declared.cause.Cause.TheVariants.{FetchOutside}
@@ -24,17 +25,17 @@ module _ {I D : Type 0} (bytes : View D) where
 
 -- the word that a fetch was answered
 abbrev pub fetched : Reply → Result ℕ Cause
-fetched (Word w) = Ok w
-fetched Done = Err FetchOutside
-fetched Wait = Err FetchOutside
-fetched Outside = Err FetchOutside
+fetched (Ok (Word w)) = Ok w
+fetched (Ok Done) = Err FetchOutside
+fetched (Err Wait) = Err FetchOutside
+fetched (Err Outside) = Err FetchOutside
 
 -- the value of an instruction with the result x, once the data memory has replied
 abbrev pub completed : Option Access → ℕ → Reply → ℕ
-completed how x (Word w) = loaded how x w
-completed how x Done = x
-completed how x Wait = x
-completed how x Outside = x
+completed how x (Ok (Word w)) = loaded how x w
+completed how x (Ok Done) = x
+completed how x (Err Wait) = x
+completed how x (Err Outside) = x
 
 -- the answer r of a transfer, and the data memory n after it: a cause leaves the bytes as they were
 abbrev pub ComesTo : {D : Type 0} → View D → D → Result Transfer Cause → Result ℕ Cause → D → Type 0

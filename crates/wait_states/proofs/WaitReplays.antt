@@ -1,11 +1,11 @@
 -- What wait states reply follows from the calls, if it does below. Assumes nothing.
-use Rattle.std.proofs.Common.{◌≡◌, ltb, sym, refl, ◌∙◌, inl, inr}
+use Rattle.std.proofs.Common.{◌≡◌, ltb, sym, refl, ◌∙◌, inl, inr, Err}
 use Rattle.std.proofs.lemmas.Bool.{cases_Bool}
 use Rattle.std.proofs.lemmas.Bool.Decides.{when_true, when_false}
 use Rattle.base.specs.Bytes.{within}
 use Rattle.base.specs.declared.bus.Request.{Request}
-use Rattle.memory.specs.declared.Reply.{Reply}
-use Rattle.memory.specs.declared.Reply.TheVariants.{Wait, Outside}
+use Rattle.memory.specs.Meaning.{Reply}
+use Rattle.memory.specs.declared.Unserved.TheVariants.{Wait, Outside}
 use Rattle.wait_states.specs.declared.WaitStates.{WaitStates}
 use Rattle.memory.specs.Meaning.{Meaning, Lawful, place}
 use Rattle.wait_states.specs.WaitStates.{told, wait_view, wait_means, Misses, Counts, Passes, WaitServes, WaitIdles}
@@ -36,10 +36,10 @@ module _ {M : Type 0} {m : Meaning M} (laws : Lawful m) (replays : Replays m) wh
         | inr t ↦ misses (when_false _ _ t i) (when_false _ _ (inside ∙ t) j)
       ]
     where
-      misses : (r ≡ Outside) × Misses w y → (s ≡ Outside) × Misses x z → (r ≡ s) × Alike y z
+      misses : (r ≡ (Err Outside)) × Misses w y → (s ≡ (Err Outside)) × Misses x z → (r ≡ s) × Alike y z
       misses a b = (a.0 ∙ sym b.0, record { below = together_as a.1.below b.1.below e.below; states = b.1.states ∙ e.states ∙ sym a.1.states; counting = b.1.counting ∙ sym a.1.counting })
 
-      counts : (r ≡ Wait) × Counts m w q y → (s ≡ Wait) × Counts m x q z → (r ≡ s) × Alike y z
+      counts : (r ≡ (Err Wait)) × Counts m w q y → (s ≡ (Err Wait)) × Counts m x q z → (r ≡ s) × Alike y z
       counts a b = (
         a.0 ∙ sym b.0,
         record { below = together_idle replays e.below a.1.below b.1.below; states = b.1.states ∙ e.states ∙ sym a.1.states; counting = let c = e.counting in let f = a.1.counting in let g = b.1.counting in cc },

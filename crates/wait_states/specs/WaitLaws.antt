@@ -1,5 +1,5 @@
 -- Wait states keep the rules, if the memory below does. Assumes nothing.
-use Rattle.std.specs.Prelude.{◌≡◌, ℕ, ◌+◌, ◌-◌, ◌<◌, ◌≤◌, true, false, MatchBool, nat_lt}
+use Rattle.std.specs.Prelude.{◌≡◌, ℕ, ◌+◌, ◌-◌, ◌<◌, ◌≤◌, true, false, MatchBool, nat_lt, Ok, Err}
 use Rattle.std.proofs.Common.{inl, inr, arith}
 use Rattle.std.proofs.lemmas.Bool.{ltb-true, ltb-false, lt-ltb, le-ltb, cond-true, cond-false, cases_Bool, cases_lt, both_ways}
 use Rattle.std.proofs.lemmas.Bool.Decides.{when_true, when_false}
@@ -7,8 +7,9 @@ use Rattle.base.specs.Bytes.{within}
 use Rattle.base.specs.declared.bus.Lanes.{Lanes}
 use Rattle.base.specs.declared.bus.Request.{Request}
 use Rattle.base.specs.declared.bus.Request.TheVariants.{Read, Write}
-use Rattle.memory.specs.declared.Reply.{Reply}
-use Rattle.memory.specs.declared.Reply.TheVariants.{Word, Done, Wait, Outside}
+use Rattle.memory.specs.Meaning.{Reply}
+use Rattle.memory.specs.declared.Answer.TheVariants.{Word, Done}
+use Rattle.memory.specs.declared.Unserved.TheVariants.{Wait, Outside}
 use Rattle.wait_states.specs.declared.Counting.TheVariants.{Waiting}
 use Rattle.wait_states.specs.declared.WaitStates.{WaitStates}
 use Rattle.memory.specs.Meaning.{View, Meaning, Lawful, Same, Changed, Served, place}
@@ -59,27 +60,27 @@ module _ {M : Type 0} {m : Meaning M} (laws : Lawful m) where
       rw (passing w q h, passing x q j) less
 
   passes : (w x : WaitStates M) (q : Request) (r : Reply) → within (top.size w) (place q) ≡ true → w.states ≤ told w.counting q → Served low w.below q r x.below → x.states ≡ w.states → x.counting ≡ passed q w.states r → Served top w q r x
-  passes w x (Read a) (Word y) e h b s c = (e, b.1, same w x s b.2)
-  passes w x (Read a) Done e h b s c = b
-  passes w x (Read a) Wait e h b s c = (e, fewer w x (Read a) e s b.2.longest (passes_fewer w x (Read a) h s c b.1), same w x s b.2)
-  passes w x (Read a) Outside e h b s c = absurd (both_ways _ b.0 (layer_within _ _ a e).1)
-  passes w x (Write a y l) (Word z) e h b s c = b
-  passes w x (Write a y l) Done e h b s c = (e, changed w x a y l s b.1)
-  passes w x (Write a y l) Wait e h b s c = (e, fewer w x (Write a y l) e s b.2.longest (passes_fewer w x (Write a y l) h s c b.1), same w x s b.2)
-  passes w x (Write a y l) Outside e h b s c = absurd (both_ways _ b.0 (layer_within _ _ a e).1)
+  passes w x (Read a) (Ok (Word y)) e h b s c = (e, b.1, same w x s b.2)
+  passes w x (Read a) (Ok Done) e h b s c = b
+  passes w x (Read a) (Err Wait) e h b s c = (e, fewer w x (Read a) e s b.2.longest (passes_fewer w x (Read a) h s c b.1), same w x s b.2)
+  passes w x (Read a) (Err Outside) e h b s c = absurd (both_ways _ b.0 (layer_within _ _ a e).1)
+  passes w x (Write a y l) (Ok (Word z)) e h b s c = b
+  passes w x (Write a y l) (Ok Done) e h b s c = (e, changed w x a y l s b.1)
+  passes w x (Write a y l) (Err Wait) e h b s c = (e, fewer w x (Write a y l) e s b.2.longest (passes_fewer w x (Write a y l) h s c b.1), same w x s b.2)
+  passes w x (Write a y l) (Err Outside) e h b s c = absurd (both_ways _ b.0 (layer_within _ _ a e).1)
 
   serve : (w x : WaitStates M) (q : Request) (r : Reply) → WaitServes m w q r x → Served top w q r x
   serve w x q r h = elim (cases_Bool (within (top.size w) (place q))) [ inl e ↦ inside e (when_true _ _ e h) | inr e ↦ misses e (when_false _ _ e h) ]
     where
-      misses : within (top.size w) (place q) ≡ false → (r ≡ Outside) × Misses w x → Served top w q r x
+      misses : within (top.size w) (place q) ≡ false → (r ≡ (Err Outside)) × Misses w x → Served top w q r x
       misses e k = rw k.0 (outside top w x q e (same w x k.1.states (same_as low k.1.below)))
 
-      counts : within (top.size w) (place q) ≡ true → told w.counting q < w.states → (r ≡ Wait) × Counts m w q x → Served top w q r x
+      counts : within (top.size w) (place q) ≡ true → told w.counting q < w.states → (r ≡ (Err Wait)) × Counts m w q x → Served top w q r x
       counts e t k =
           let i = laws.idle _ _ k.1.below in
           rw k.0 (waited top w x q e (fewer w x q e k.1.states i.longest (counts_fewer w x q t k.1)) (same w x k.1.states i))
 
-      inside : within (top.size w) (place q) ≡ true → MatchBool (nat_lt (told w.counting q) w.states) ((r ≡ Wait) × Counts m w q x) (Passes m w q r x) → Served top w q r x
+      inside : within (top.size w) (place q) ≡ true → MatchBool (nat_lt (told w.counting q) w.states) ((r ≡ (Err Wait)) × Counts m w q x) (Passes m w q r x) → Served top w q r x
       inside e k =
           elim (cases_Bool (nat_lt (told w.counting q) w.states)) [
             | inl t ↦ counts e (ltb-true _ _ t) (when_true _ _ t k)

@@ -1,11 +1,12 @@
 -- Wait states over any memory. Assumes nothing.
-use Rattle.std.specs.Prelude.{◌≡◌, ℕ, ◌+◌, ◌-◌, Bool, true, false, cond, ◌&&◌, MatchBool, ◌==◌, nat_le, nat_lt}
+use Rattle.std.specs.Prelude.{◌≡◌, ℕ, ◌+◌, ◌-◌, Bool, true, false, cond, ◌&&◌, MatchBool, ◌==◌, nat_le, nat_lt, Ok, Err}
 use Rattle.base.specs.Bytes.{within}
 use Rattle.base.specs.declared.bus.Lanes.{Lanes}
 use Rattle.base.specs.declared.bus.Request.{Request}
 use Rattle.base.specs.declared.bus.Request.TheVariants.{Read, Write}
-use Rattle.memory.specs.declared.Reply.{Reply}
-use Rattle.memory.specs.declared.Reply.TheVariants.{Word, Done, Wait, Outside}
+use Rattle.memory.specs.Meaning.{Reply}
+use Rattle.memory.specs.declared.Answer.TheVariants.{Word, Done}
+use Rattle.memory.specs.declared.Unserved.TheVariants.{Wait, Outside}
 use Rattle.wait_states.specs.declared.Counting.{Counting}
 use Rattle.wait_states.specs.declared.Counting.TheVariants.{Nothing, Waiting}
 use Rattle.wait_states.specs.declared.WaitStates.{WaitStates}
@@ -33,10 +34,10 @@ told (Waiting p n) q = cond (same_request p q) n 0
 
 -- what is counted after q was passed down, past s wait states: q still, if it was told to wait below
 abbrev pub passed : Request → ℕ → Reply → Counting
-passed q s (Word w) = Nothing
-passed q s Done = Nothing
-passed q s Wait = Waiting q s
-passed q s Outside = Nothing
+passed q s (Ok (Word w)) = Nothing
+passed q s (Ok Done) = Nothing
+passed q s (Err Wait) = Waiting q s
+passed q s (Err Outside) = Nothing
 
 -- s wait states can stand over a memory whose longest wait is l
 abbrev pub wait_fits : ℕ → ℕ → Bool
@@ -79,8 +80,8 @@ module _ {M : Type 0} where
   abbrev pub WaitServes : Meaning M → WaitStates M → Request → Reply → WaitStates M → Type 0
   WaitServes m w q r x =
       MatchBool (within ((wait_view m.view).size w) (place q))
-      (MatchBool (nat_lt (told w.counting q) w.states) ((r ≡ Wait) × Counts m w q x) (Passes m w q r x))
-      ((r ≡ Outside) × Misses w x)
+      (MatchBool (nat_lt (told w.counting q) w.states) ((r ≡ (Err Wait)) × Counts m w q x) (Passes m w q r x))
+      ((r ≡ (Err Outside)) × Misses w x)
 
   -- idle restarts the count
   pub record WaitIdles (m : Meaning M) (w x : WaitStates M) : Type 0 where

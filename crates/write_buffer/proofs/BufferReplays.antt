@@ -1,12 +1,13 @@
 -- What a write buffer replies follows from the calls, if it does below. Assumes nothing.
-use Rattle.std.proofs.Common.{◌≡◌, leb, length, Some, None, Option, sym, refl, ap, ◌∙◌, subst, inl, inr}
+use Rattle.std.proofs.Common.{◌≡◌, leb, length, Some, None, Option, sym, refl, ap, ◌∙◌, subst, inl, inr, Ok, Err}
 use Rattle.std.proofs.lemmas.Bool.{cases_Bool}
 use Rattle.std.proofs.lemmas.Bool.Decides.{when_true, when_false}
 use Rattle.base.specs.Bytes.{within}
 use Rattle.base.specs.declared.bus.Request.{Request}
 use Rattle.base.specs.declared.bus.Request.TheVariants.{Read, Write}
-use Rattle.memory.specs.declared.Reply.{Reply}
-use Rattle.memory.specs.declared.Reply.TheVariants.{Done, Outside}
+use Rattle.memory.specs.Meaning.{Reply}
+use Rattle.memory.specs.declared.Answer.TheVariants.{Done}
+use Rattle.memory.specs.declared.Unserved.TheVariants.{Outside}
 use Rattle.write_buffer.specs.declared.held.PostedWrite.{PostedWrite}
 use Rattle.write_buffer.specs.declared.WriteBuffer.{WriteBuffer}
 use Rattle.write_buffer.specs.Held.{oldest}
@@ -39,7 +40,7 @@ module _ {M : Type 0} {m : Meaning M} (laws : Lawful m) (replays : Replays m) wh
         | inr t ↦ takes (when_false _ _ t i) (when_false _ _ (full ∙ t) j)
       ]
     where
-      takes : (r ≡ Done) × Takes m b (record { address = a; word = w; lanes = l }) d → (s ≡ Done) × Takes m c (record { address = a; word = w; lanes = l }) f → (r ≡ s) × Alike d f
+      takes : (r ≡ (Ok Done)) × Takes m b (record { address = a; word = w; lanes = l }) d → (s ≡ (Ok Done)) × Takes m c (record { address = a; word = w; lanes = l }) f → (r ≡ s) × Alike d f
       takes x y = (x.0 ∙ sym y.0, record { below = together_idle replays e.below x.1.below y.1.below; writes = let g = e.writes in let u = x.1.held in let v = y.1.held in cc })
 
   serve : (b c d f : WriteBuffer M) (q : Request) (r s : Reply) → Alike b c → BufferServes m b q r d → BufferServes m c q s f → (r ≡ s) × Alike d f
@@ -52,7 +53,7 @@ module _ {M : Type 0} {m : Meaning M} (laws : Lawful m) (replays : Replays m) wh
         | inr t ↦ misses (when_false _ _ t i) (when_false _ _ (inside ∙ t) j)
       ]
     where
-      misses : (r ≡ Outside) × Misses b d → (s ≡ Outside) × Misses c f → (r ≡ s) × Alike d f
+      misses : (r ≡ (Err Outside)) × Misses b d → (s ≡ (Err Outside)) × Misses c f → (r ≡ s) × Alike d f
       misses x y = (x.0 ∙ sym y.0, record { below = together_as x.1.below y.1.below e.below; writes = y.1.held ∙ e.writes ∙ sym x.1.held })
 
   idles : (b c d f : WriteBuffer M) (o : Option PostedWrite) → Alike b c → Idles m b o d → Idles m c o f → Alike d f

@@ -1,5 +1,5 @@
 -- A write buffer keeps the rules, if the memory below does. Assumes nothing.
-use Rattle.std.specs.Prelude.{◌≡◌, ℕ, ◌+◌, ◌*◌, ◌%◌, ◌<◌, ◌≤◌, Bool, true, false, cond, List, [], ◌∷◌, length, drop, nat_le, refl}
+use Rattle.std.specs.Prelude.{◌≡◌, ℕ, ◌+◌, ◌*◌, ◌%◌, ◌<◌, ◌≤◌, Bool, true, false, cond, List, [], ◌∷◌, length, drop, nat_le, refl, Ok, Err}
 use Rattle.std.proofs.Common.{sym, ap, ◌∙◌, inl, inr, arith, length-take}
 use Rattle.std.proofs.lemmas.List.Sums.{fold_push}
 use Rattle.std.proofs.lemmas.Bool.{leb-true, lt-leb, cond-true, cond-false, cases_Bool, cond_both, both_ways}
@@ -8,8 +8,9 @@ use Rattle.base.specs.Bytes.{within, put}
 use Rattle.base.specs.declared.bus.Lanes.{Lanes}
 use Rattle.base.specs.declared.bus.Request.{Request}
 use Rattle.base.specs.declared.bus.Request.TheVariants.{Read, Write}
-use Rattle.memory.specs.declared.Reply.{Reply}
-use Rattle.memory.specs.declared.Reply.TheVariants.{Word, Done, Wait, Outside}
+use Rattle.memory.specs.Meaning.{Reply}
+use Rattle.memory.specs.declared.Answer.TheVariants.{Word, Done}
+use Rattle.memory.specs.declared.Unserved.TheVariants.{Wait, Outside}
 use Rattle.write_buffer.specs.declared.held.PostedWrite.{PostedWrite}
 use Rattle.write_buffer.specs.declared.WriteBuffer.{WriteBuffer}
 use Rattle.write_buffer.specs.Held.{oldest, laid, over}
@@ -78,29 +79,29 @@ module _ {M : Type 0} {m : Meaning M} (laws : Lawful m) where
   gone b c p ps e k z x y = over_same x z (k ∙ ap (drop 1) e) y ∙ over_same x refl (sym e) refl
 
   sends : (b c : WriteBuffer M) (p : PostedWrite) (ps : List PostedWrite) (r : Reply) → held b ≡ p ∷ ps → Served low b.below (asks p) r c.below → held c ≡ sent (held b) r → Same top b c
-  sends b c p ps (Word w) e h k = absurd h
-  sends b c p ps Done e h k =
+  sends b c p ps (Ok (Word w)) e h k = absurd h
+  sends b c p ps (Ok Done) e h k =
       let z = h.1.size in
       let l = h.1.longest in
       record { size = cc; byte = λ x. gone b c p ps e k z x (h.1.byte x ∙ sym (cond-true _ _ _ h.0)); longest = cc }
-  sends b c p ps Wait e h k = same b c h.2 k
-  sends b c p ps Outside e h k =
+  sends b c p ps (Err Wait) e h k = same b c h.2 k
+  sends b c p ps (Err Outside) e h k =
       let z = h.1.size in
       let l = h.1.longest in
       record { size = cc; byte = λ x. gone b c p ps e k z x (h.1.byte x ∙ sym (cond-false _ _ _ h.0)); longest = cc }
 
   -- a request that waits behind a held write, which is sent below, has fewer waits left
   read_fewer : (n o : M) (p : PostedWrite) (ps : List PostedWrite) (r : Reply) (a : ℕ) → Served low n (asks p) r o → buffer_waits low o (sent (p ∷ ps) r) (Read a) < buffer_waits low n (p ∷ ps) (Read a)
-  read_fewer n o p ps (Word w) a h = absurd h
-  read_fewer n o p ps Done a h = omega (arith, read_behind o ps a, ap (λ l. behind l ps) h.1.longest)
-  read_fewer n o p ps Wait a h = omega (arith, ap (λ l. behind l ps) h.2.longest)
-  read_fewer n o p ps Outside a h = omega (arith, read_behind o ps a, ap (λ l. behind l ps) h.1.longest)
+  read_fewer n o p ps (Ok (Word w)) a h = absurd h
+  read_fewer n o p ps (Ok Done) a h = omega (arith, read_behind o ps a, ap (λ l. behind l ps) h.1.longest)
+  read_fewer n o p ps (Err Wait) a h = omega (arith, ap (λ l. behind l ps) h.2.longest)
+  read_fewer n o p ps (Err Outside) a h = omega (arith, read_behind o ps a, ap (λ l. behind l ps) h.1.longest)
 
   write_fewer : (n o : M) (p : PostedWrite) (ps : List PostedWrite) (r : Reply) (a w : ℕ) (l : Lanes) → length (p ∷ ps) ≤ 4 → nat_le 4 (length (p ∷ ps)) ≡ true → Served low n (asks p) r o → buffer_waits low o (sent (p ∷ ps) r) (Write a w l) < buffer_waits low n (p ∷ ps) (Write a w l)
-  write_fewer n o p ps (Word y) a w l few full h = absurd h
-  write_fewer n o p ps Done a w l few full h = rw (write_room o ps a w l (omega arith), cond-true _ (low.waits n (asks p) + 1) 0 full) (omega arith)
-  write_fewer n o p ps Wait a w l few full h = rw (cond-true _ (low.waits o (asks p) + 1) 0 full, cond-true _ (low.waits n (asks p) + 1) 0 full) (omega arith)
-  write_fewer n o p ps Outside a w l few full h = rw (write_room o ps a w l (omega arith), cond-true _ (low.waits n (asks p) + 1) 0 full) (omega arith)
+  write_fewer n o p ps (Ok (Word y)) a w l few full h = absurd h
+  write_fewer n o p ps (Ok Done) a w l few full h = rw (write_room o ps a w l (omega arith), cond-true _ (low.waits n (asks p) + 1) 0 full) (omega arith)
+  write_fewer n o p ps (Err Wait) a w l few full h = rw (cond-true _ (low.waits o (asks p) + 1) 0 full, cond-true _ (low.waits n (asks p) + 1) 0 full) (omega arith)
+  write_fewer n o p ps (Err Outside) a w l few full h = rw (write_room o ps a w l (omega arith), cond-true _ (low.waits n (asks p) + 1) 0 full) (omega arith)
 
   -- a write that is taken is laid over all that is held
   takes : (b c : WriteBuffer M) (a w : ℕ) (l : Lanes) → within (low.size b.below) a ≡ true → Takes m b (record { address = a; word = w; lanes = l }) c → Changed top b a w l c
@@ -122,12 +123,12 @@ module _ {M : Type 0} {m : Meaning M} (laws : Lawful m) where
   fewer b c q e l h = layer_fewer (fits low b) (fits low c) _ _ (layer_within _ _ (place q) e).0 (cc) h
 
   passes : (b c : WriteBuffer M) (a : ℕ) (r : Reply) → within (top.size b) a ≡ true → held b ≡ [] → held c ≡ held b → Served low b.below (Read a) r c.below → Served top b (Read a) r c
-  passes b c a (Word w) e k j h = (e, h.1 ∙ simp (bare b k), same b c h.2 j)
-  passes b c a Done e k j h = h
-  passes b c a Wait e k j h = (e, fewer b c (Read a) e h.2.longest (rw (j, k) h.1), same b c h.2 j)
-  passes b c a Outside e k j h = absurd (both_ways _ h.0 (layer_within _ _ a e).1)
+  passes b c a (Ok (Word w)) e k j h = (e, h.1 ∙ simp (bare b k), same b c h.2 j)
+  passes b c a (Ok Done) e k j h = h
+  passes b c a (Err Wait) e k j h = (e, fewer b c (Read a) e h.2.longest (rw (j, k) h.1), same b c h.2 j)
+  passes b c a (Err Outside) e k j h = absurd (both_ways _ h.0 (layer_within _ _ a e).1)
 
-  waits_behind : (b c : WriteBuffer M) (q : Request) (p : PostedWrite) (ps : List PostedWrite) → within (top.size b) (place q) ≡ true → held b ≡ p ∷ ps → Sends m b p c → ((r : Reply) → Served low b.below (asks p) r c.below → buffer_waits low c.below (sent (p ∷ ps) r) q < buffer_waits low b.below (p ∷ ps) q) → Served top b q Wait c
+  waits_behind : (b c : WriteBuffer M) (q : Request) (p : PostedWrite) (ps : List PostedWrite) → within (top.size b) (place q) ≡ true → held b ≡ p ∷ ps → Sends m b p c → ((r : Reply) → Served low b.below (asks p) r c.below → buffer_waits low c.below (sent (p ∷ ps) r) q < buffer_waits low b.below (p ∷ ps) q) → Served top b q (Err Wait) c
   waits_behind b c q p ps e k h less =
       let d = laws.serve _ _ (asks p) h.reply h.below in
       waited top b c q e (fewer b c q e (fixed low _ _ (asks p) h.reply d).1 (rw (h.held, k) (less h.reply d))) (sends b c p ps h.reply k d h.held)

@@ -1,10 +1,11 @@
 -- A write buffer over any memory. Assumes nothing.
-use Rattle.std.specs.Prelude.{◌≡◌, ℕ, ◌+◌, ◌*◌, Bool, cond, List, [], ◌∷◌, ◌++◌, length, drop, Some, None, MatchBool, Option, nat_le}
+use Rattle.std.specs.Prelude.{◌≡◌, ℕ, ◌+◌, ◌*◌, Bool, cond, List, [], ◌∷◌, ◌++◌, length, drop, Some, None, MatchBool, Option, nat_le, Ok, Err}
 use Rattle.base.specs.Bytes.{within}
 use Rattle.base.specs.declared.bus.Request.{Request}
 use Rattle.base.specs.declared.bus.Request.TheVariants.{Read, Write}
-use Rattle.memory.specs.declared.Reply.{Reply}
-use Rattle.memory.specs.declared.Reply.TheVariants.{Word, Done, Wait, Outside}
+use Rattle.memory.specs.Meaning.{Reply}
+use Rattle.memory.specs.declared.Answer.TheVariants.{Word, Done}
+use Rattle.memory.specs.declared.Unserved.TheVariants.{Wait, Outside}
 use Rattle.write_buffer.specs.declared.held.PostedWrite.{PostedWrite}
 use Rattle.write_buffer.specs.declared.WriteBuffer.{WriteBuffer}
 use Rattle.write_buffer.specs.Held.{pending, oldest, over}
@@ -16,10 +17,10 @@ asks p = Write p.address p.word p.lanes
 
 -- what is held after the oldest write was sent below: it stays where it is told to wait
 abbrev pub sent : List PostedWrite → Reply → List PostedWrite
-sent ps (Word w) = drop 1 ps
-sent ps Done = drop 1 ps
-sent ps Wait = ps
-sent ps Outside = drop 1 ps
+sent ps (Ok (Word w)) = drop 1 ps
+sent ps (Ok Done) = drop 1 ps
+sent ps (Err Wait) = ps
+sent ps (Err Outside) = drop 1 ps
 
 -- The waits of a read behind held writes, over a memory whose longest wait is l: each of them waits and is answered, and then the read waits.
 abbrev pub behind : ℕ → List PostedWrite → ℕ
@@ -76,15 +77,15 @@ module _ {M : Type 0} where
   -- what is held goes first, and meanwhile the request waits
   abbrev pub InTurn : Meaning M → WriteBuffer M → Option PostedWrite → Request → Reply → WriteBuffer M → Type 0
   InTurn m b None q r c = Passes m b q r c
-  InTurn m b (Some p) q r c = (r ≡ Wait) × Sends m b p c
+  InTurn m b (Some p) q r c = (r ≡ (Err Wait)) × Sends m b p c
 
   abbrev pub Accepts : Meaning M → WriteBuffer M → Request → Reply → WriteBuffer M → Type 0
   Accepts m b (Read a) r c = InTurn m b (oldest (held b)) (Read a) r c
   Accepts m b (Write a w l) r c =
-      MatchBool (nat_le 4 (length (held b))) (InTurn m b (oldest (held b)) (Write a w l) r c) ((r ≡ Done) × Takes m b (record { address = a; word = w; lanes = l }) c)
+      MatchBool (nat_le 4 (length (held b))) (InTurn m b (oldest (held b)) (Write a w l) r c) ((r ≡ (Ok Done)) × Takes m b (record { address = a; word = w; lanes = l }) c)
 
   abbrev pub BufferServes : Meaning M → WriteBuffer M → Request → Reply → WriteBuffer M → Type 0
-  BufferServes m b q r c = MatchBool (within ((buffer_view m.view).size b) (place q)) (Accepts m b q r c) ((r ≡ Outside) × Misses b c)
+  BufferServes m b q r c = MatchBool (within ((buffer_view m.view).size b) (place q)) (Accepts m b q r c) ((r ≡ (Err Outside)) × Misses b c)
 
   -- an idle clock sends the oldest write below
   abbrev pub Idles : Meaning M → WriteBuffer M → Option PostedWrite → WriteBuffer M → Type 0

@@ -5,7 +5,7 @@ ghost use Rattle.memory.specs.FlatLaws.{flat_lawful};
 ghost use Rattle.memory.specs.Meaning.{Checked};
 
 use super::Flat;
-use crate::{Answer, Memory, is_within};
+use crate::{Memory, Unserved, is_within};
 use base::bus::Lanes;
 use base::refusal::Refusal;
 
@@ -40,9 +40,9 @@ impl Memory for Flat {
 
     ghost obeys = { flat_lawful };
 
-    fn read(&mut self, address: u32) -> Answer<u32> {
+    fn read(&mut self, address: u32) -> Result<u32, Unserved> {
         if !is_within(self.size, address) {
-            return Answer::Outside;
+            return Err(Unserved::Outside);
         }
         let at = address as usize;
         let bytes = [
@@ -51,12 +51,12 @@ impl Memory for Flat {
             self.bytes[at + 2],
             self.bytes[at + 3],
         ];
-        Answer::Ready(u32::from_le_bytes(bytes))
+        Ok(u32::from_le_bytes(bytes))
     }
 
-    fn write(&mut self, address: u32, word: u32, lanes: Lanes) -> Answer<()> {
+    fn write(&mut self, address: u32, word: u32, lanes: Lanes) -> Result<(), Unserved> {
         if !is_within(self.size, address) {
-            return Answer::Outside;
+            return Err(Unserved::Outside);
         }
         let at = address as usize;
         let [b0, b1, b2, b3] = word.to_le_bytes();
@@ -64,7 +64,7 @@ impl Memory for Flat {
         put_byte(&mut self.bytes, at + 1, b1, lanes.b1);
         put_byte(&mut self.bytes, at + 2, b2, lanes.b2);
         put_byte(&mut self.bytes, at + 3, b3, lanes.b3);
-        Answer::Ready(())
+        Ok(())
     }
 
     fn idle(&mut self) {}

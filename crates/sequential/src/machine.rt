@@ -9,7 +9,7 @@ ghost use Rattle.sequential.specs.Stepping.{fetched, completed, world_of, state_
 use crate::record::{Retired, Retirement, Stop};
 use base::bus::Request;
 use base::refusal::Refusal;
-use memory::{Memory, Reply, insist};
+use memory::{Answer, Memory, Reply, byte_at, insist};
 use rv32i::cause::Cause;
 use rv32i::effect::{Access, loaded, request};
 use rv32i::register::Register;
@@ -49,12 +49,13 @@ fn fetched(reply: Reply) -> Result<u32, Cause>
     ensures { result ≡ fetched reply }
 {
     match reply {
-        Reply::Word(word) => Ok(word),
-        Reply::Done | Reply::Wait | Reply::Outside => Err(Cause::FetchOutside),
+        Ok(Answer::Word(word)) => Ok(word),
+        Ok(Answer::Done) | Err(_) => Err(Cause::FetchOutside),
     }
 }
 
 /// The word at an address of the image, or why there is none.
+#[tactic(auto, using(crate::proofs::Answered::fetch_misaligned, crate::proofs::Answered::fetches, memory::proofs::Rules::same_as))]
 fn fetch<I: Memory>(image: &mut I, address: u32) -> Result<u32, Cause>
     ensures word { result ≡ fetch (I.Memory.means.view.size image.old) (I.Memory.means.view.byte image.old) address }
     ensures same { Same I.Memory.means.view image.old image.new }
@@ -71,19 +72,19 @@ fn completed(access: Option<Access>, res: u32, reply: Reply) -> u32
     ensures { result ≡ completed access res reply }
 {
     match reply {
-        Reply::Word(word) => loaded(access, res, word),
-        Reply::Done | Reply::Wait | Reply::Outside => res,
+        Ok(Answer::Word(word)) => loaded(access, res, word),
+        Ok(Answer::Done) | Err(_) => res,
     }
 }
 
 /// Does an instruction's part in the data memory, if it has one, and gives its value.
+#[tactic(auto, using(crate::proofs::Answered::transfers))]
 fn transfer<D: Memory>(data: &mut D, access: Option<Access>, res: u32, b: u32) -> Result<u32, Cause>
     ensures { Transferred D.Memory.means.view «data».old (request (D.Memory.means.view.size «data».old) access res b) access res result «data».new }
 {
-    match request(data.size(), access, res, b) {
-        Err(cause) => Err(cause),
-        Ok(None) => Ok(res),
-        Ok(Some(request)) => {
+    match request(data.size(), access, res, b)? {
+        None => Ok(res),
+        Some(request) => {
             let answer = insist(data, request);
             Ok(completed(access, res, answer.reply))
         }
@@ -155,10 +156,7 @@ impl<I: Memory, D: Memory> Machine<I, D> {
     pub fn byte(&self, address: u32) -> Result<u8, Refusal>
         ensures { Says (λ b. (address < D.Memory.means.view.size self.now.«data») × (b ≡ D.Memory.means.view.byte self.now.«data» address)) (λ why. (why ≡ 9) × (D.Memory.means.view.size self.now.«data» ≤ address)) result }
     {
-        match self.data.peek(address) {
-            Some(byte) => Ok(byte),
-            None => Err(Refusal::NotThere),
-        }
+        byte_at(&self.data, address)
     }
 
     /// Where and why the machine stopped, if it has.

@@ -16,6 +16,7 @@ use predictor::Predictor;
 const SLOTS: usize = 256;
 
 /// What is told now and then how far a run has come.
+// A trait and no closure: of a closure `run_to` would have to require that it may be called.
 pub trait Watch {
     /// The clocks that were made so far.
     fn made(&mut self, clocks: u32);

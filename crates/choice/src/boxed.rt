@@ -19,10 +19,9 @@ impl<M: Memory> Boxed<M> {
         ensures made { IfOk result (λ b. inside b ≡ memory) }
         ensures refused { IfErr result (λ back. back.value ≡ memory) }
     {
-        match Box::new(heap, memory) {
-            Ok(memory) => Ok(Boxed { memory }),
-            Err(back) => Err(back),
-        }
+        Ok(Boxed {
+            memory: Box::new(heap, memory)?,
+        })
     }
 }
 

@@ -4,7 +4,6 @@ use Rattle.base.specs.Refusals.{Says}
 use Rattle.base.specs.declared.bus.Request.{Request}
 use Rattle.base.specs.declared.refusal.Refusal.{Refusal}
 use Rattle.memory.specs.Meaning.{Reply}
-use Rattle.wait_states.specs.declared.Counting.TheVariants.{Nothing}
 use Rattle.wait_states.specs.declared.WaitStates.{WaitStates}
 use Rattle.write_buffer.specs.declared.WriteBuffer.{WriteBuffer}
 use Rattle.write_buffer.specs.Held.{pending}
@@ -67,7 +66,7 @@ module _ {M : Type 0} where
   pub record WaitsOver (lower : M) (s : ℕ) (w : WaitStates M) : Type 0 where
     pub below : w.below ≡ lower
     pub states : w.states ≡ s
-    pub counting : w.counting ≡ Nothing
+    pub counting : w.counting ≡ None
 
   -- a write buffer over a memory, that holds nothing
   pub record BufferOver (lower : M) (b : WriteBuffer M) : Type 0 where

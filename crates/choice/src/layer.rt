@@ -5,7 +5,7 @@ ghost use Rattle.choice.specs.LayerLaws.{layer_lawful};
 
 use base::bus::Lanes;
 use base::refusal::Refusal;
-use memory::{Answer, Memory};
+use memory::{Memory, Unserved};
 use setup::choice::LayerChoice;
 use wait_states::WaitStates;
 use write_buffer::WriteBuffer;
@@ -60,7 +60,7 @@ impl<M: Memory> Memory for Layer<M> {
 
     ghost obeys = { layer_lawful M.Memory.obeys };
 
-    fn read(&mut self, address: u32) -> Answer<u32> {
+    fn read(&mut self, address: u32) -> Result<u32, Unserved> {
         match self {
             Layer::Plain(memory) => memory.read(address),
             Layer::WaitStates(memory) => memory.read(address),
@@ -68,7 +68,7 @@ impl<M: Memory> Memory for Layer<M> {
         }
     }
 
-    fn write(&mut self, address: u32, word: u32, lanes: Lanes) -> Answer<()> {
+    fn write(&mut self, address: u32, word: u32, lanes: Lanes) -> Result<(), Unserved> {
         match self {
             Layer::Plain(memory) => memory.write(address, word, lanes),
             Layer::WaitStates(memory) => memory.write(address, word, lanes),

@@ -1,7 +1,7 @@
 -- Loads and stores find and put their own bytes. Assumes nothing.
 use Rattle.std.proofs.Common.{◌≡◌, ℕ, zero, suc, ◌+◌, ◌*◌, ◌/◌, ◌%◌, ◌^◌, ◌<◌, Bool, true, false, cond, ◌&&◌, eqb, ltb, Some, Ok, Err, refl, ap, ◌∙◌, subst, arith}
 use Rattle.std.proofs.lemmas.Int.{ints}
-use Rattle.std.proofs.lemmas.Bool.{eqb-true, eq-eqb, ne_eqb, and_left, and_right, and_from}
+use Rattle.std.proofs.lemmas.Bool.{false≢true, eqb-true, eq-eqb, ne_eqb, and_left, and_right, and_from}
 use Rattle.std.proofs.lemmas.Bool.Decides.{nat_tests}
 use Rattle.base.specs.Bytes.{word, put}
 use Rattle.base.specs.declared.bus.Lanes.{Lanes}
@@ -30,7 +30,7 @@ accepts : (q p : Request) (misaligned outside : Cause) (b d : Bool) → cond b (
     → (b ≡ true) × (q ≡ p)
 accepts q p misaligned outside true true e = (refl, cc)
 accepts q p misaligned outside true false e = (refl, cc)
-accepts q p misaligned outside false d e = let z : ◌≡◌ {A = ℕ} 0 1 = cc in absurd (omega arith)
+accepts q p misaligned outside false d e = absurd cc
 
 -- ---- loads
 
@@ -136,7 +136,7 @@ four after x b e f g i (suc (suc (suc zero))) h = i
 four after x b e f g i (suc (suc (suc (suc j)))) h = absurd (omega arith)
 
 off : {A : Type 0} → false ≡ true → A
-off e = let z : ◌≡◌ {A = ℕ} 0 1 = cc in absurd (omega arith)
+off e = absurd (false≢true e)
 
 -- the word of b that a store at the place r in a word asks to put, and its lanes
 abbrev shifted : ℕ → ℕ → ℕ

@@ -39,15 +39,14 @@ impl Image {
         ensures memory { self.new.memory.items ≡ with_word_at self.old.memory.items address word }
         ensures same { (self.new.name ≡ self.old.name) × (self.new.start ≡ self.old.start) }
     {
-        let [b0, b1, b2, b3] = word.to_le_bytes();
-        self.put_byte(address, b0);
-        self.put_byte(address.wrapping_add(1), b1);
-        self.put_byte(address.wrapping_add(2), b2);
-        self.put_byte(address.wrapping_add(3), b3);
+        for (i, byte) in word.to_le_bytes().iter().enumerate() {
+            self.put_byte(address.wrapping_add(i as u32), *byte);
+        }
     }
 }
 
 /// What a line of the vectors says.
+#[derive(Clone, Copy, PartialEq, Eq, Debug)]
 pub enum Line<'a> {
     /// `image NAME START SIZE`: a memory of so many zeros, and where its program starts.
     Image(&'a str, u32, u32),
@@ -61,10 +60,7 @@ pub enum Line<'a> {
 pub fn hexadecimal(text: &str) -> Option<u32>
     ensures { Hexadecimal text.now result }
 {
-    match u32::from_str_radix(text, 16) {
-        Ok(number) => Some(number),
-        Err(_) => None,
-    }
+    u32::from_str_radix(text, 16).ok()
 }
 
 /// `NAME START SIZE`

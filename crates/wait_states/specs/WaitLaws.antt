@@ -1,5 +1,5 @@
 -- Wait states keep the rules, if the memory below does. Assumes nothing.
-use Rattle.std.specs.Prelude.{◌≡◌, ℕ, ◌+◌, ◌-◌, ◌<◌, ◌≤◌, true, false, MatchBool, nat_lt, Ok, Err}
+use Rattle.std.specs.Prelude.{◌≡◌, ℕ, ◌+◌, ◌-◌, ◌<◌, ◌≤◌, true, false, MatchBool, nat_lt, Some, Ok, Err}
 use Rattle.std.proofs.Common.{inl, inr, arith}
 use Rattle.std.proofs.lemmas.Bool.{ltb-true, ltb-false, lt-ltb, le-ltb, cond-true, cond-false, cases_Bool, cases_lt, both_ways}
 use Rattle.std.proofs.lemmas.Bool.Decides.{when_true, when_false}
@@ -10,7 +10,6 @@ use Rattle.base.specs.declared.bus.Request.TheVariants.{Read, Write}
 use Rattle.memory.specs.Meaning.{Reply}
 use Rattle.memory.specs.declared.Answer.TheVariants.{Word, Done}
 use Rattle.memory.specs.declared.Unserved.TheVariants.{Wait, Outside}
-use Rattle.wait_states.specs.declared.Counting.TheVariants.{Waiting}
 use Rattle.wait_states.specs.declared.WaitStates.{WaitStates}
 use Rattle.memory.specs.Meaning.{View, Meaning, Lawful, Same, Changed, Served, place}
 use Rattle.wait_states.specs.WaitStates.{told, passed, fits, wait_waits, wait_view, wait_means, Misses, Counts, Passes, WaitServes, WaitIdles}
@@ -24,7 +23,7 @@ module _ {M : Type 0} {m : Meaning M} (laws : Lawful m) where
   abbrev top : View (WaitStates M)
   top = wait_view m.view
 
-  told_self : (x : WaitStates M) (q : Request) (n : ℕ) → x.counting ≡ Waiting q n → told x.counting q ≡ n
+  told_self : (x : WaitStates M) (q : Request) (n : ℕ) → x.counting ≡ Some (record { request = q; told = n }) → told x.counting q ≡ n
   told_self x q n e = rw e (cond-true _ _ _ (request_self q))
 
   -- the waits left in the wait states, and past them
@@ -53,7 +52,7 @@ module _ {M : Type 0} {m : Meaning M} (laws : Lawful m) where
       let t = told_self x q _ k.counting in
       elim (cases_lt (told x.counting q) x.states) [ inl j ↦ rw (counting w q h, counting x q j) (omega arith) | inr j ↦ rw (counting w q h, passing x q j) (omega (arith, laws.patient x.below q)) ]
 
-  passes_fewer : (w x : WaitStates M) (q : Request) → w.states ≤ told w.counting q → x.states ≡ w.states → x.counting ≡ Waiting q w.states → low.waits x.below q < low.waits w.below q → wait_waits low x q < wait_waits low w q
+  passes_fewer : (w x : WaitStates M) (q : Request) → w.states ≤ told w.counting q → x.states ≡ w.states → x.counting ≡ Some (record { request = q; told = w.states }) → low.waits x.below q < low.waits w.below q → wait_waits low x q < wait_waits low w q
   passes_fewer w x q h s c less =
       let t = told_self x q _ c in
       let j : x.states ≤ told x.counting q = omega arith in

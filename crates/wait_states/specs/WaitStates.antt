@@ -1,5 +1,6 @@
 -- Wait states over any memory. Assumes nothing.
-use Rattle.std.specs.Prelude.{◌≡◌, ℕ, ◌+◌, ◌-◌, Bool, true, false, cond, ◌&&◌, MatchBool, ◌==◌, nat_le, nat_lt, Ok, Err}
+use Rattle.std.specs.Prelude.{◌≡◌, ℕ, ◌+◌, ◌-◌, Bool, false, cond, ◌&&◌, MatchBool, ◌==◌, nat_le, nat_lt, Some, None, Option, Ok, Err}
+use Rattle.std.specs.Bool.{beq}
 use Rattle.base.specs.Bytes.{within}
 use Rattle.base.specs.declared.bus.Lanes.{Lanes}
 use Rattle.base.specs.declared.bus.Request.{Request}
@@ -7,18 +8,12 @@ use Rattle.base.specs.declared.bus.Request.TheVariants.{Read, Write}
 use Rattle.memory.specs.Meaning.{Reply}
 use Rattle.memory.specs.declared.Answer.TheVariants.{Word, Done}
 use Rattle.memory.specs.declared.Unserved.TheVariants.{Wait, Outside}
-use Rattle.wait_states.specs.declared.Counting.{Counting}
-use Rattle.wait_states.specs.declared.Counting.TheVariants.{Nothing, Waiting}
+use Rattle.wait_states.specs.declared.Counted.{Counted}
 use Rattle.wait_states.specs.declared.WaitStates.{WaitStates}
 use Rattle.memory.specs.Meaning.{View, Meaning, place}
 
-abbrev pub same_flag : Bool → Bool → Bool
-same_flag true b = b
-same_flag false true = false
-same_flag false false = true
-
 abbrev pub same_lanes : Lanes → Lanes → Bool
-same_lanes l k = same_flag l.b0 k.b0 && (same_flag l.b1 k.b1 && (same_flag l.b2 k.b2 && same_flag l.b3 k.b3))
+same_lanes l k = beq l.b0 k.b0 && (beq l.b1 k.b1 && (beq l.b2 k.b2 && beq l.b3 k.b3))
 
 -- the same request: of the same kind, with the same address, word and lanes
 unfoldable pub same_request : Request → Request → Bool
@@ -28,16 +23,16 @@ same_request (Write a w l) (Read b) = false
 same_request (Write a w l) (Write b v k) = a == b && (w == v && same_lanes l k)
 
 -- how often the layer itself has told q to wait
-abbrev pub told : Counting → Request → ℕ
-told Nothing q = 0
-told (Waiting p n) q = cond (same_request p q) n 0
+abbrev pub told : Option Counted → Request → ℕ
+told None q = 0
+told (Some c) q = cond (same_request c.request q) c.told 0
 
 -- what is counted after q was passed down, past s wait states: q still, if it was told to wait below
-abbrev pub passed : Request → ℕ → Reply → Counting
-passed q s (Ok (Word w)) = Nothing
-passed q s (Ok Done) = Nothing
-passed q s (Err Wait) = Waiting q s
-passed q s (Err Outside) = Nothing
+abbrev pub passed : Request → ℕ → Reply → Option Counted
+passed q s (Ok (Word w)) = None
+passed q s (Ok Done) = None
+passed q s (Err Wait) = Some (record { request = q; told = s })
+passed q s (Err Outside) = None
 
 -- s wait states can stand over a memory whose longest wait is l
 abbrev pub wait_fits : ℕ → ℕ → Bool
@@ -63,13 +58,13 @@ module _ {M : Type 0} where
   pub record Misses (w x : WaitStates M) : Type 0 where
     pub below : x.below ≡ w.below
     pub states : x.states ≡ w.states
-    pub counting : x.counting ≡ Nothing
+    pub counting : x.counting ≡ None
 
   -- a wait state of q, in which the memory below idles
   pub record Counts (m : Meaning M) (w : WaitStates M) (q : Request) (x : WaitStates M) : Type 0 where
     pub below : m.idles w.below x.below
     pub states : x.states ≡ w.states
-    pub counting : x.counting ≡ Waiting q (told w.counting q + 1)
+    pub counting : x.counting ≡ Some (record { request = q; told = told w.counting q + 1 })
 
   -- q is passed down, and an answer restarts the count
   pub record Passes (m : Meaning M) (w : WaitStates M) (q : Request) (r : Reply) (x : WaitStates M) : Type 0 where
@@ -87,7 +82,7 @@ module _ {M : Type 0} where
   pub record WaitIdles (m : Meaning M) (w x : WaitStates M) : Type 0 where
     pub below : m.idles w.below x.below
     pub states : x.states ≡ w.states
-    pub counting : x.counting ≡ Nothing
+    pub counting : x.counting ≡ None
 
 abbrev pub wait_means : {M : Type 0} → Meaning M → Meaning (WaitStates M)
 wait_means m = record { view = wait_view m.view; serves = WaitServes m; idles = WaitIdles m }

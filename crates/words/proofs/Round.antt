@@ -87,94 +87,22 @@ restored_even n r i f = restored_if (eqb (n % 2) 0) r i (λ h. f (eqb-true (n % 
 
 -- the codes of each kind lead back to it
 branch_operation : (c : Condition) (f7 rest : ℕ) → operation_by 0x63 (condition_code c) f7 rest ≡ Some (ABranch c)
-branch_operation Eq f7 rest = refl
-branch_operation Ne f7 rest = refl
-branch_operation Lt f7 rest = refl
-branch_operation Ge f7 rest = refl
-branch_operation Ltu f7 rest = refl
-branch_operation Geu f7 rest = refl
-
-condition_small : (c : Condition) → condition_code c < 2 ^ 3
-condition_small Eq = omega arith
-condition_small Ne = omega arith
-condition_small Lt = omega arith
-condition_small Ge = omega arith
-condition_small Ltu = omega arith
-condition_small Geu = omega arith
+branch_operation c f7 rest = grind arith
 
 load_operation : (k : LoadKind) (f7 rest : ℕ) → operation_by 0x03 (load_code k) f7 rest ≡ Some (ALoad k)
-load_operation Byte f7 rest = refl
-load_operation Half f7 rest = refl
-load_operation Word f7 rest = refl
-load_operation ByteUnsigned f7 rest = refl
-load_operation HalfUnsigned f7 rest = refl
-
-load_small : (k : LoadKind) → load_code k < 2 ^ 3
-load_small Byte = omega arith
-load_small Half = omega arith
-load_small Word = omega arith
-load_small ByteUnsigned = omega arith
-load_small HalfUnsigned = omega arith
+load_operation k f7 rest = grind arith
 
 store_operation : (k : StoreKind) (f7 rest : ℕ) → operation_by 0x23 (store_code k) f7 rest ≡ Some (AStore k)
-store_operation ByteStored f7 rest = refl
-store_operation HalfStored f7 rest = refl
-store_operation WordStored f7 rest = refl
-
-store_small : (k : StoreKind) → store_code k < 2 ^ 3
-store_small ByteStored = omega arith
-store_small HalfStored = omega arith
-store_small WordStored = omega arith
+store_operation k f7 rest = grind arith
 
 immediate_operation : (o : ImmediateOp) (f7 rest : ℕ) → operation_by 0x13 (immediate_code o) f7 rest ≡ Some (AnImmediate o)
-immediate_operation AddImm f7 rest = refl
-immediate_operation SltImm f7 rest = refl
-immediate_operation SltuImm f7 rest = refl
-immediate_operation XorImm f7 rest = refl
-immediate_operation OrImm f7 rest = refl
-immediate_operation AndImm f7 rest = refl
-
-immediate_small : (o : ImmediateOp) → immediate_code o < 2 ^ 3
-immediate_small AddImm = omega arith
-immediate_small SltImm = omega arith
-immediate_small SltuImm = omega arith
-immediate_small XorImm = omega arith
-immediate_small OrImm = omega arith
-immediate_small AndImm = omega arith
+immediate_operation o f7 rest = grind arith
 
 shift_operation : (o : ShiftOp) (rest : ℕ) → operation_by 0x13 (shift_codes o).0 (shift_codes o).1 rest ≡ Some (AShift o)
-shift_operation SllImm rest = refl
-shift_operation SrlImm rest = refl
-shift_operation SraImm rest = refl
-
-shift_small : (o : ShiftOp) → ((shift_codes o).0 < 2 ^ 3) × ((shift_codes o).1 < 2 ^ 7)
-shift_small SllImm = (omega arith, omega arith)
-shift_small SrlImm = (omega arith, omega arith)
-shift_small SraImm = (omega arith, omega arith)
+shift_operation o rest = grind arith
 
 register_operation : (o : RegisterOp) (rest : ℕ) → operation_by 0x33 (register_codes o).0 (register_codes o).1 rest ≡ Some (ARegister o)
-register_operation Add rest = refl
-register_operation Sub rest = refl
-register_operation Sll rest = refl
-register_operation Slt rest = refl
-register_operation Sltu rest = refl
-register_operation Xor rest = refl
-register_operation Srl rest = refl
-register_operation Sra rest = refl
-register_operation Or rest = refl
-register_operation And rest = refl
-
-register_small : (o : RegisterOp) → ((register_codes o).0 < 2 ^ 3) × ((register_codes o).1 < 2 ^ 7)
-register_small Add = (omega arith, omega arith)
-register_small Sub = (omega arith, omega arith)
-register_small Sll = (omega arith, omega arith)
-register_small Slt = (omega arith, omega arith)
-register_small Sltu = (omega arith, omega arith)
-register_small Xor = (omega arith, omega arith)
-register_small Srl = (omega arith, omega arith)
-register_small Sra = (omega arith, omega arith)
-register_small Or = (omega arith, omega arith)
-register_small And = (omega arith, omega arith)
+register_operation o rest = grind arith
 
 module _ (op : ℕ) (o : Operation) (i : Instruction) (h0 : op < 2 ^ 7) where
   restored_u : (d : Reg) (v : ℕ) → ((f3 f7 rest : ℕ) → operation_by op f3 f7 rest ≡ Some o)
@@ -232,24 +160,24 @@ restored (Auipc d v) = restored_u 0x17 AnAuipc (Auipc d v) (omega arith) d v (λ
 restored (Jal d z) = restored_j 0x6f AJal (Jal d z) (omega arith) d z (λ f3 f7 rest. refl) (λ f3 r1 r2 f7 e. rw (register_of d, e))
 restored (Jalr d r z) = restored_i 0x67 AJalr (Jalr d r z) (omega arith) 0 (omega arith) (λ f7 rest. refl) d r z (λ r2 f7 e. rw (register_of d, register_of r, e))
 restored (Branch c r q z) =
-    restored_b 0x63 (ABranch c) (Branch c r q z) (omega arith) (condition_code c) (condition_small c) (branch_operation c) r q z
+    restored_b 0x63 (ABranch c) (Branch c r q z) (omega arith) (condition_code c) (grind arith) (branch_operation c) r q z
     (λ d f7 e. rw (register_of r, register_of q, e))
 restored (Load k d r z) =
-    restored_i 0x03 (ALoad k) (Load k d r z) (omega arith) (load_code k) (load_small k) (load_operation k) d r z
+    restored_i 0x03 (ALoad k) (Load k d r z) (omega arith) (load_code k) (grind arith) (load_operation k) d r z
     (λ r2 f7 e. rw (register_of d, register_of r, e))
 restored (Store k r q z) =
-    restored_s 0x23 (AStore k) (Store k r q z) (omega arith) (store_code k) (store_small k) (store_operation k) r q z
+    restored_s 0x23 (AStore k) (Store k r q z) (omega arith) (store_code k) (grind arith) (store_operation k) r q z
     (λ d f7 e. rw (register_of r, register_of q, e))
 restored (Immediate o d r z) =
-    restored_i 0x13 (AnImmediate o) (Immediate o d r z) (omega arith) (immediate_code o) (immediate_small o) (immediate_operation o) d r z
+    restored_i 0x13 (AnImmediate o) (Immediate o d r z) (omega arith) (immediate_code o) (grind arith) (immediate_operation o) d r z
     (λ r2 f7 e. rw (register_of d, register_of r, e))
 restored (Shift o d r n) =
     restored_if (ltb n 32) (Ok (word_of 0x13 d.number (shift_codes o).0 r.number n (shift_codes o).1)) (Shift o d r n) (λ h.
     decoded_word 0x13 d.number (shift_codes o).0 r.number n (shift_codes o).1 (AShift o) (Shift o d r n)
-    (omega arith) d.ok (shift_small o).0 r.ok (ltb-true n 32 h) (shift_small o).1 (shift_operation o) (rw (register_of d, register_of r)))
+    (omega arith) d.ok (grind arith) r.ok (ltb-true n 32 h) (grind arith) (shift_operation o) (rw (register_of d, register_of r)))
 restored (Register o d r q) =
     decoded_word 0x33 d.number (register_codes o).0 r.number q.number (register_codes o).1 (ARegister o) (Register o d r q)
-    (omega arith) d.ok (register_small o).0 r.ok q.ok (register_small o).1 (register_operation o) (rw (register_of d, register_of r, register_of q))
+    (omega arith) d.ok (grind arith) r.ok q.ok (grind arith) (register_operation o) (rw (register_of d, register_of r, register_of q))
 restored Fence = refl
 restored Ecall = refl
 restored Ebreak = refl

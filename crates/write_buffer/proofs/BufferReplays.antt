@@ -32,7 +32,7 @@ module _ {M : Type 0} {m : Meaning M} (laws : Lawful m) (replays : Replays m) wh
   in_turn b c d f (Some p) q r s e i j = (i.0 ∙ sym j.0, sends b c d f p e i.1 j.1)
 
   accepts : (b c d f : WriteBuffer M) (q : Request) (r s : Reply) → Alike b c → Accepts m b q r d → Accepts m c q s f → (r ≡ s) × Alike d f
-  accepts b c d f (Read a) r s e i j = in_turn b c d f (oldest (held b)) (Read a) r s e i (rw e.writes at j)
+  accepts b c d f (Read a) r s e i j = in_turn b c d f (oldest (held b)) (Read a) r s e i (subst (λ ps. InTurn m c (oldest ps) (Read a) s f) e.writes j)
   accepts b c d f (Write a w l) r s e i j =
       let full : leb 4 (length (held c)) ≡ leb 4 (length (held b)) = ap (λ ps. leb 4 (length ps)) e.writes in
       elim (cases_Bool (leb 4 (length (held b)))) [

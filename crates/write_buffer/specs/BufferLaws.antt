@@ -1,6 +1,6 @@
 -- A write buffer keeps the rules, if the memory below does. Assumes nothing.
 use Rattle.std.specs.Prelude.{◌≡◌, ℕ, ◌+◌, ◌*◌, ◌%◌, ◌<◌, ◌≤◌, Bool, true, false, cond, List, [], ◌∷◌, length, drop, nat_le, refl, Ok, Err}
-use Rattle.std.proofs.Common.{sym, ap, ◌∙◌, inl, inr, arith, length-take}
+use Rattle.std.proofs.Common.{sym, ap, ◌∙◌, inl, inr, arith}
 use Rattle.std.proofs.lemmas.List.Sums.{fold_push}
 use Rattle.std.proofs.lemmas.Bool.{leb-true, lt-leb, cond-true, cond-false, cases_Bool, cond_both, both_ways}
 use Rattle.std.proofs.lemmas.Bool.Decides.{when_true, when_false}
@@ -67,7 +67,7 @@ module _ {M : Type 0} {m : Meaning M} (laws : Lawful m) where
       cond_both (nat_le 4 (length (p ∷ ps))) (low.waits n (asks p) + 1) 0 (λ z. z ≤ 5 * low.longest n + 4) (λ _. omega arith) (λ _. omega arith)
 
   few : (b : WriteBuffer M) → length (held b) ≤ 4
-  few b = simp length-take (omega arith)
+  few b = b.held.room
 
   -- what is seen after a call
 

@@ -13,7 +13,7 @@ mod replies;
 use base::bus::{Lanes, Request};
 use base::refusal::Refusal;
 use held::{Held, PostedWrite};
-use memory::{Answer, MOST_WAITS, Memory, Reply, address_of, ask, is_within};
+use memory::{Answer, MOST_WAITS, Memory, Reply, Unserved, address_of, ask, is_within};
 pub use replies::write_buffer_replies_follow_calls;
 
 /// Up to four writes on their way to the memory below.
@@ -28,7 +28,7 @@ impl<M: Memory> WriteBuffer<M> {
     pub fn check(below: &M) -> Result<(), Refusal>
         ensures { Checked (buffer_fits (M.Memory.means.view.longest below.now)) 2 result }
     {
-        if below.longest() <= (MOST_WAITS - 4) / 5 {
+        if fits(below.longest()) {
             Ok(())
         } else {
             Err(Refusal::LongWait)
@@ -50,7 +50,7 @@ impl<M: Memory> WriteBuffer<M> {
     fn fits(&self) -> bool
         ensures { result ≡ buffer_fits (M.Memory.means.view.longest self.now.below) }
     {
-        WriteBuffer::check(&self.below).is_ok()
+        fits(self.below.longest())
     }
 
     /// Serves a request, of either kind.
@@ -58,7 +58,7 @@ impl<M: Memory> WriteBuffer<M> {
         ensures { BufferServes M.Memory.means self.old request result self.new }
     {
         if !is_within(self.size(), address_of(request)) {
-            return Reply::Outside;
+            return Err(Unserved::Outside);
         }
         if let Request::Write {
             address,
@@ -73,12 +73,12 @@ impl<M: Memory> WriteBuffer<M> {
                 lanes,
             });
             self.below.idle();
-            return Reply::Done;
+            return Ok(Answer::Done);
         }
         match self.held.oldest() {
             Some(oldest) => {
                 self.send(oldest);
-                Reply::Wait
+                Err(Unserved::Wait)
             }
             None => ask(&mut self.below, request),
         }
@@ -89,10 +89,17 @@ impl<M: Memory> WriteBuffer<M> {
         ensures { Sends M.Memory.means self.old write self.new }
     {
         match self.below.write(write.address, write.word, write.lanes) {
-            Answer::Wait => {}
+            Err(Unserved::Wait) => {}
             _ => self.held.remove_oldest(),
         }
     }
+}
+
+/// Whether a write buffer may stand over a memory with that longest wait.
+fn fits(longest: u32) -> bool
+    ensures { result ≡ buffer_fits longest }
+{
+    longest <= (MOST_WAITS - 4) / 5
 }
 
 impl<M: Memory> Memory for WriteBuffer<M> {
@@ -100,25 +107,21 @@ impl<M: Memory> Memory for WriteBuffer<M> {
 
     ghost obeys = { buffer_lawful M.Memory.obeys };
 
-    fn read(&mut self, address: u32) -> Answer<u32> {
-        match self.serve(Request::Read { address }) {
-            Reply::Word(word) => Answer::Ready(word),
-            Reply::Wait => Answer::Wait,
-            Reply::Outside => Answer::Outside,
-            Reply::Done => unreachable(),
+    fn read(&mut self, address: u32) -> Result<u32, Unserved> {
+        match self.serve(Request::Read { address })? {
+            Answer::Word(word) => Ok(word),
+            Answer::Done => unreachable(),
         }
     }
 
-    fn write(&mut self, address: u32, word: u32, lanes: Lanes) -> Answer<()> {
+    fn write(&mut self, address: u32, word: u32, lanes: Lanes) -> Result<(), Unserved> {
         match self.serve(Request::Write {
             address,
             word,
             lanes,
-        }) {
-            Reply::Done => Answer::Ready(()),
-            Reply::Wait => Answer::Wait,
-            Reply::Outside => Answer::Outside,
-            Reply::Word(_) => unreachable(),
+        })? {
+            Answer::Done => Ok(()),
+            Answer::Word(_) => unreachable(),
         }
     }
 
@@ -133,18 +136,14 @@ impl<M: Memory> Memory for WriteBuffer<M> {
         if !self.fits() {
             return None;
         }
-        match self.below.peek(address) {
-            Some(byte) => Some(self.held.over(self.below.size(), address, byte)),
-            None => None,
-        }
+        let byte = self.below.peek(address)?;
+        Some(self.held.over(self.below.size(), address, byte))
     }
 
     fn longest(&self) -> u32 {
-        if self.fits() {
-            5 * self.below.longest() + 4
-        } else {
-            0
-        }
+        // The one call below: with two, a stack of n layers would make 2 ^ n.
+        let longest = self.below.longest();
+        if fits(longest) { 5 * longest + 4 } else { 0 }
     }
 
     fn size(&self) -> u32 {

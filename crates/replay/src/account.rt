@@ -60,7 +60,10 @@ impl Account {
         match stop {
             Some(stop) => {
                 let stop = StopText(stop);
-                writeln!(self.text, "stop {stop} retired {retired} digest {digest:016x}")
+                writeln!(
+                    self.text,
+                    "stop {stop} retired {retired} digest {digest:016x}"
+                )
             }
             None => writeln!(self.text, "limit retired {retired} digest {digest:016x}"),
         }

@@ -1,7 +1,7 @@
 //! The calls on a machine, accepted and refused.
-use crate::prints::bytes_of;
 use base::refusal::Refusal;
 use clocking::state::ClockRecord;
+use listing::image::bytes_of;
 use memory::Flat;
 use pipeline::journal::Journal;
 use pipeline::machine::{RetiredAt, check, load};

@@ -1,8 +1,7 @@
 //! Whole prints of small programs, worked out by hand from the clock rule.
-use crate::prints::bytes_of;
 use clocking::state::ClockRecord;
 use clocktable::table::clock_table;
-use listing::image::{ImageError, padded};
+use listing::image::{bytes_of, padded};
 use memory::{Flat, Memory};
 use pipeline::journal::Journal;
 use pipeline::machine::{Machine, RetiredAt, load};
@@ -35,7 +34,7 @@ fn print_of<P: Predictor + Drop, I: Memory + Drop, D: Memory + Drop>(
 
 /// A flat memory of these words, padded.
 fn image_of(heap: Global, words: &[u32]) -> Result<Flat, Fail> {
-    Ok(Flat::new(padded(bytes_of(heap, words)?)?))
+    Ok(Flat::new(padded(bytes_of(heap, words)?)?.into_bytes()))
 }
 
 /// 4096 zero bytes.

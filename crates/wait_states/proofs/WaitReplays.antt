@@ -6,9 +6,8 @@ use Rattle.base.specs.Bytes.{within}
 use Rattle.base.specs.declared.bus.Request.{Request}
 use Rattle.memory.specs.Meaning.{Reply}
 use Rattle.memory.specs.declared.Unserved.TheVariants.{Wait, Outside}
-use Rattle.wait_states.specs.declared.WaitStates.{WaitStates}
 use Rattle.memory.specs.Meaning.{Meaning, Lawful, place}
-use Rattle.wait_states.specs.WaitStates.{told, wait_view, wait_means, Misses, Counts, Passes, WaitServes, WaitIdles}
+use Rattle.wait_states.specs.WaitStates.{WaitStates, told, wait_view, wait_means, Misses, Counts, Passes, WaitServes, WaitIdles}
 use Rattle.memory.specs.Runs.{Replays}
 use Rattle.memory.proofs.Replaying.{Together, together_itself, together_as, together_serve, together_idle, together_fixed, replays_by}
 

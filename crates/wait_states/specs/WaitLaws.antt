@@ -10,9 +10,8 @@ use Rattle.base.specs.declared.bus.Request.TheVariants.{Read, Write}
 use Rattle.memory.specs.Meaning.{Reply}
 use Rattle.memory.specs.declared.Answer.TheVariants.{Word, Done}
 use Rattle.memory.specs.declared.Unserved.TheVariants.{Wait, Outside}
-use Rattle.wait_states.specs.declared.WaitStates.{WaitStates}
 use Rattle.memory.specs.Meaning.{View, Meaning, Lawful, Same, Changed, Served, place}
-use Rattle.wait_states.specs.WaitStates.{told, passed, fits, wait_waits, wait_view, wait_means, Misses, Counts, Passes, WaitServes, WaitIdles}
+use Rattle.wait_states.specs.WaitStates.{WaitStates, told, passed, fits, wait_waits, wait_view, wait_means, Misses, Counts, Passes, WaitServes, WaitIdles}
 use Rattle.memory.proofs.Rules.{same_as, waited, outside, layer_within, layer_aligned, layer_patient, layer_fewer}
 use Rattle.wait_states.specs.Requests.{request_self}
 

@@ -9,7 +9,6 @@ use Rattle.memory.specs.Meaning.{Reply}
 use Rattle.memory.specs.declared.Answer.TheVariants.{Word, Done}
 use Rattle.memory.specs.declared.Unserved.TheVariants.{Wait, Outside}
 use Rattle.wait_states.specs.declared.Counted.{Counted}
-use Rattle.wait_states.specs.declared.WaitStates.{WaitStates}
 use Rattle.memory.specs.Meaning.{View, Meaning, place}
 
 abbrev pub same_lanes : Lanes → Lanes → Bool
@@ -34,9 +33,20 @@ passed q s (Ok Done) = None
 passed q s (Err Wait) = Some (record { request = q; told = s })
 passed q s (Err Outside) = None
 
+-- what is seen of wait states: the memory below, how many they are, and what is counted
+pub record WaitStates (M : Type 0) : Type 0 where
+  pub below : M
+  pub states : ℕ
+  pub counting : Option Counted
+
 -- s wait states can stand over a memory whose longest wait is l
 abbrev pub wait_fits : ℕ → ℕ → Bool
 wait_fits s l = nat_le s 15 && nat_le (s + l) 4095
+
+-- the size and the longest wait that are kept are those of these wait states over the memory below: 0 where they do not fit
+pub record IsMeasured {M : Type 0} (v : View M) (below : M) (states size longest : ℕ) : Type 0 where
+  pub size_is : size ≡ cond (wait_fits states (v.longest below)) (v.size below) 0
+  pub longest_is : longest ≡ cond (wait_fits states (v.longest below)) (states + v.longest below) 0
 
 module _ {M : Type 0} where
   abbrev pub fits : View M → WaitStates M → Bool

@@ -9,10 +9,9 @@ use Rattle.memory.specs.Meaning.{Reply}
 use Rattle.memory.specs.declared.Answer.TheVariants.{Done}
 use Rattle.memory.specs.declared.Unserved.TheVariants.{Outside}
 use Rattle.write_buffer.specs.declared.held.PostedWrite.{PostedWrite}
-use Rattle.write_buffer.specs.declared.WriteBuffer.{WriteBuffer}
 use Rattle.write_buffer.specs.Held.{oldest}
 use Rattle.memory.specs.Meaning.{Meaning, Lawful, place}
-use Rattle.write_buffer.specs.WriteBuffer.{asks, held, buffer_view, buffer_means, Misses, Takes, Sends, InTurn, Accepts, BufferServes, Idles}
+use Rattle.write_buffer.specs.WriteBuffer.{WriteBuffer, asks, held, buffer_view, buffer_means, Misses, Takes, Sends, InTurn, Accepts, BufferServes, Idles}
 use Rattle.memory.specs.Runs.{Replays}
 use Rattle.memory.proofs.Replaying.{Together, together_itself, together_as, together_serve, together_idle, together_fixed, replays_by}
 

@@ -7,7 +7,7 @@ use Rattle.memory.specs.Meaning.{Reply}
 use Rattle.memory.specs.declared.Answer.TheVariants.{Word, Done}
 use Rattle.memory.specs.declared.Unserved.TheVariants.{Wait, Outside}
 use Rattle.write_buffer.specs.declared.held.PostedWrite.{PostedWrite}
-use Rattle.write_buffer.specs.declared.WriteBuffer.{WriteBuffer}
+use Rattle.write_buffer.specs.declared.held.Held.{Held}
 use Rattle.write_buffer.specs.Held.{pending, oldest, over}
 use Rattle.memory.specs.Meaning.{View, Meaning, place}
 
@@ -30,6 +30,16 @@ behind l (p ∷ ps) = l + 1 + behind l ps
 -- a write buffer can stand over a memory whose longest wait is l
 abbrev pub buffer_fits : ℕ → Bool
 buffer_fits l = nat_le (5 * l + 4) 4095
+
+-- what is seen of a write buffer: the memory below, and the writes that are held
+pub record WriteBuffer (M : Type 0) : Type 0 where
+  pub below : M
+  pub held : Held
+
+-- the size and the longest wait that are kept are those of a write buffer over the memory below: 0 where it does not fit
+pub record IsMeasured {M : Type 0} (v : View M) (below : M) (size longest : ℕ) : Type 0 where
+  pub size_is : size ≡ cond (buffer_fits (v.longest below)) (v.size below) 0
+  pub longest_is : longest ≡ cond (buffer_fits (v.longest below)) (5 * v.longest below + 4) 0
 
 module _ {M : Type 0} where
   abbrev pub held : WriteBuffer M → List PostedWrite

@@ -1,7 +1,8 @@
 -- Every clock keeps the agreement with the sequential machine. Assumes nothing.
-use Rattle.std.proofs.Common.{◌≡◌, ℕ, ◌+◌, ◌-◌, ◌<◌, ◌≤◌, Bool, true, false, cond, ◌||◌, List, [], ◌∷◌, ◌++◌, length, is_some, Some, None, Ok, Err, Option, sym, refl, ap, ◌∙◌, subst, append-nil, arith}
+use Rattle.std.proofs.Common.{◌≡◌, ℕ, ◌+◌, ◌-◌, ◌%◌, ◌<◌, ◌≤◌, Bool, true, false, cond, eqb, ltb, ◌||◌, List, [], ◌∷◌, ◌++◌, length, is_some, Some, None, Ok, Err, Option, sym, refl, ap, ◌∙◌, subst, append-nil, arith}
 use mathlib.Core.Path.{fun_ext}
 use Rattle.base.specs.declared.bus.Request.{Request}
+use Rattle.base.specs.declared.bus.Request.TheVariants.{Read}
 use Rattle.memory.specs.Meaning.{Meaning, Lawful}
 use Rattle.memory.specs.Meaning.{Reply}
 use Rattle.memory.specs.declared.Answer.TheVariants.{Word, Done}
@@ -12,10 +13,10 @@ use Rattle.sequential.specs.Sequential.{State, World}
 use Rattle.sequential.specs.declared.record.Retirement.{Retirement}
 use Rattle.sequential.specs.declared.record.Stop.{Stop}
 use Rattle.clocking.specs.Agreement.{listed, retirements, productive, world_of, state_of, StopsSo, BytesSo, Accounted, Agreement}
-use Rattle.clocking.specs.Clock.{stop_of, retirement_of, outcome_of, written_back, completes, executes, plans, latches_after, Moved, Halted, Worked, Cycled}
+use Rattle.clocking.specs.Clock.{stop_of, retirement_of, outcome_of, written_back, completes, executes, decodes, plans, latches_after, Moved, Halted, Worked, Cycled}
 use Rattle.clocking.specs.Counting.{in_flight_count, occupied, has_fetched, dropped, one_if, Counted}
 use Rattle.clocking.specs.Ports.{Table, Taught, arrival}
-use Rattle.clocking.specs.Stages.{data_request, sent, fetch_request}
+use Rattle.clocking.specs.Stages.{data_request, sent, fetching}
 use Rattle.clocking.specs.declared.state.Core.{Core}
 use Rattle.clocking.specs.declared.state.Event.{Event}
 use Rattle.clocking.specs.declared.latch.Completed.{Completed}
@@ -23,13 +24,13 @@ use Rattle.clocking.specs.declared.latch.Fetched.{Fetched}
 use Rattle.clocking.specs.declared.latch.Latch.{Latch}
 use Rattle.clocking.specs.declared.latch.Latch.TheVariants.{Empty, Faulting, Full}
 use Rattle.clocking.specs.declared.latch.Latches.{Latches}
-use Rattle.clocking.specs.declared.stage.Fetching.{Fetching}
-use Rattle.clocking.specs.declared.stage.Fetching.TheVariants.{Idle, Fault, Ask}
+use Rattle.clocking.specs.declared.stage.Flow.{Flow}
+use Rattle.clocking.specs.declared.stage.Flow.TheVariants.{Moves, Stays, RollsBack}
 use Rattle.clocking.proofs.Balance.{clock_balance, dropped_most}
 use Rattle.clocking.proofs.Chain.{Flows, Reach, Chain, HoldsW, behindW, bytes_at}
 use Rattle.clocking.proofs.Countdown.{count, Lulled, Down, down, lulls, least_one, at_first}
 use Rattle.clocking.proofs.Data.{idle_same}
-use Rattle.clocking.proofs.Fetch.{Arrives}
+use Rattle.clocking.proofs.Fetch.{asked_if, Arrives}
 use Rattle.clocking.proofs.Forward.{Pairs, pairs}
 use Rattle.clocking.proofs.Histories.{retirements_more, length_more, retired_more, taught_more}
 use Rattle.clocking.proofs.Keeps.{Retires, clock_keeps}
@@ -42,24 +43,31 @@ arrives_so : {P : Type 0} (table : Table P) (p : P) (f : ℕ) (a : Option Reply)
 arrives_so table p f None = tt
 arrives_so table p f (Some (Ok (Word w))) = (refl, refl, refl)
 arrives_so table p f (Some (Ok Done)) = tt
-arrives_so table p f (Some (Err Wait)) = tt
-arrives_so table p f (Some (Err Outside)) = tt
+arrives_so table p f (Some (Err u)) = tt
 
 -- reading does not change the bytes
-text_kept : (size f : ℕ) (plan : Fetching) (a : Option Reply) (u v : ℕ → ℕ) → Bytes size (fetch_request f plan) a u v → v ≡ u
-text_kept size f Idle a u v h = idle_same size a u v h
-text_kept size f (Fault c) a u v h = idle_same size a u v h
-text_kept size f Ask None u v h = absurd h
-text_kept size f Ask (Some (Ok (Word w))) u v h = h.2
-text_kept size f Ask (Some (Ok Done)) u v h = absurd h
-text_kept size f Ask (Some (Err Wait)) u v h = h
-text_kept size f Ask (Some (Err Outside)) u v h = h.1
+read_same : (size f : ℕ) (a : Option Reply) (u v : ℕ → ℕ) → Bytes size (Some (Read f)) a u v → v ≡ u
+read_same size f None u v h = absurd h
+read_same size f (Some (Ok (Word w))) u v h = h.2
+read_same size f (Some (Ok Done)) u v h = absurd h
+read_same size f (Some (Err Wait)) u v h = h
+read_same size f (Some (Err Outside)) u v h = h.1
+
+asked_kept : (size f : ℕ) (b d : Bool) (a : Option Reply) (u v : ℕ → ℕ) → Bytes size (sent (asked_if f b d)) a u v → v ≡ u
+asked_kept size f true true a u v h = read_same size f a u v h
+asked_kept size f true false a u v h = idle_same size a u v h
+asked_kept size f false d a u v h = idle_same size a u v h
+
+text_kept : (size f : ℕ) (flow : Flow) (a : Option Reply) (u v : ℕ → ℕ) → Bytes size (sent (fetching size f flow)) a u v → v ≡ u
+text_kept size f Moves a u v h = asked_kept size f (eqb (f % 4) 0) (ltb f size) a u v h
+text_kept size f Stays a u v h = idle_same size a u v h
+text_kept size f RollsBack a u v h = idle_same size a u v h
 
 -- ---- what retires is a step of the sequential machine
 
 stepped : (world : World) (start s t : State) (w : Latch Completed) (rs : List Retirement) → Steps world start rs s → Retires world s w t → Steps world start (rs ++ listed (retirement_of w)) t
 stepped world start s t Empty rs k r = rw (append-nil, r) k
-stepped world start s t (Faulting a c) rs k r = absurd r
+stepped world start s t (Faulting stop) rs k r = absurd r
 stepped world start s t (Full c) rs k r = more (record { retirement = retires_as c; after = t }) k (step_completes world s c t r.0 r.1)
 
 bytes_by : (world : World) (s : State) (c : Completed) (bytes : ℕ → ℕ) (r : Reach) → Ok c ≡ completed_at world s → after_at world s ≡ r → Pairs s (Ok c) r → bytes ≡ bytes_at s r → BytesSo world s (Full c) bytes
@@ -68,29 +76,29 @@ bytes_by world s c bytes (Ok t) e i p h = (record { retirement = retires_as c; a
 
 bytes_from : (world : World) (s : State) (bytes : ℕ → ℕ) (w : Latch Completed) → HoldsW world (Ok s) w → bytes ≡ bytes_at s (behindW world (Ok s) w) → BytesSo world s w bytes
 bytes_from world s bytes Empty h e = e
-bytes_from world s bytes (Faulting a c) h e = e
+bytes_from world s bytes (Faulting stop) h e = e
 bytes_from world s bytes (Full c) h e = bytes_by world s c bytes (after_at world s) h refl (rw h (pairs world s)) e
 
 -- W as what it stops with, or not at all
 flows_if : (w : Latch Completed) → stop_of w ≡ None → Flows w
 flows_if Empty e = tt
-flows_if (Faulting a c) e = let z : ◌≡◌ {A = ℕ} 0 1 = cc in absurd (omega arith)
+flows_if (Faulting stop) e = let z : ◌≡◌ {A = ℕ} 0 1 = cc in absurd (omega arith)
 flows_if (Full c) e = tt
 
-faulting_if : (w : Latch Completed) (stop : Stop) → stop_of w ≡ Some stop → w ≡ Faulting stop.address stop.cause
+faulting_if : (w : Latch Completed) (stop : Stop) → stop_of w ≡ Some stop → w ≡ Faulting stop
 faulting_if Empty stop e = cc
-faulting_if (Faulting a c) stop e = let i : a ≡ stop.address = cc in let j : c ≡ stop.cause = cc in λ k. Faulting (i k) (j k)
+faulting_if (Faulting s) stop e = cc
 faulting_if (Full c) stop e = cc
 
 retires_count : (w : Latch Completed) → Flows w → one_if (is_some (retirement_of w)) ≡ occupied w
 retires_count Empty h = refl
-retires_count (Faulting a c) h = absurd h
+retires_count (Faulting stop) h = absurd h
 retires_count (Full c) h = refl
 
 -- so a budget that was enough before is enough after it
 budget : (bound before after l : ℕ) (w : Latch Completed) (b : Bool) → b ≡ is_some (retirement_of w) → Down bound w before after → 1 ≤ after → before ≤ l → (b ≡ false → 2 ≤ l) × (after ≤ cond b bound (l - 1))
 budget bound before after l Empty b e d o k = (λ z. omega arith, rw e (omega arith))
-budget bound before after l (Faulting a c) b e d o k = absurd d
+budget bound before after l (Faulting stop) b e d o k = absurd d
 budget bound before after l (Full c) b e d o k = (λ z. let y : true ≡ false = sym e ∙ z in let x : ◌≡◌ {A = ℕ} 0 1 = cc in absurd (omega arith), rw e d)
 
 module _ {P I D : Type 0} (table : Table P) (instructions : Meaning I) (words : Meaning D) (il : Lawful instructions) (dl : Lawful words) (first : Core P I D) where
@@ -147,8 +155,8 @@ module _ {P I D : Type 0} (table : Table P) (instructions : Meaning I) (words : 
     data_worn : Worn reply (sent (data_request size m.latches.m)) (words.view.waits m.«data») (words.view.waits n.«data»)
     data_size : words.view.size n.«data» ≡ size
     data_longest : words.view.longest n.«data» ≡ words.view.longest m.«data»
-    text_served : Bytes text (fetch_request m.latches.f (plans size text g m.latches reply)) answer (instructions.view.byte m.instructions) (instructions.view.byte n.instructions)
-    text_worn : Worn answer (fetch_request m.latches.f (plans size text g m.latches reply)) (instructions.view.waits m.instructions) (instructions.view.waits n.instructions)
+    text_served : Bytes text (sent (plans size text g m.latches reply)) answer (instructions.view.byte m.instructions) (instructions.view.byte n.instructions)
+    text_worn : Worn answer (sent (plans size text g m.latches reply)) (instructions.view.waits m.instructions) (instructions.view.waits n.instructions)
     text_size : instructions.view.size n.instructions ≡ text
     text_longest : instructions.view.longest n.instructions ≡ instructions.view.longest m.instructions
     registers_so : n.registers ≡ g
@@ -163,7 +171,7 @@ module _ {P I D : Type 0} (table : Table P) (instructions : Meaning I) (words : 
       → Goes (words.view.size m.«data») (instructions.view.size m.instructions) n.registers m e n
   goes m e n h =
       let a = link words dl (sent (data_request (words.view.size m.«data») m.latches.m)) h.reply m.«data» n.«data» h.data_asked in
-      let b = link instructions il (fetch_request m.latches.f (plans (words.view.size m.«data») (instructions.view.size m.instructions) n.registers m.latches h.reply)) h.answer m.instructions n.instructions h.text_asked in
+      let b = link instructions il (sent (plans (words.view.size m.«data») (instructions.view.size m.instructions) n.registers m.latches h.reply)) h.answer m.instructions n.instructions h.text_asked in
       record {
         reply = h.reply;
         answer = h.answer;
@@ -206,7 +214,7 @@ module _ {P I D : Type 0} (table : Table P) (instructions : Meaning I) (words : 
     onward =
         clock_keeps world k.reached (words.view.byte m.«data») (words.view.byte n.«data») (instructions.view.byte n.instructions) m.registers m.latches w.reply w.answer
         arrives l.chain flows w.data_served
-        (subst (λ (z : ℕ → ℕ). Bytes world.text_size (fetch_request m.latches.f (plans world.data_size world.text_size g m.latches w.reply)) w.answer z (instructions.view.byte n.instructions)) k.text w.text_served)
+        (subst (λ (z : ℕ → ℕ). Bytes world.text_size (sent (plans world.data_size world.text_size g m.latches w.reply)) w.answer z (instructions.view.byte n.instructions)) k.text w.text_served)
         (arrives_so table n.predictor m.latches.f w.answer)
 
     -- the waits that may be left, before and after
@@ -286,7 +294,7 @@ module _ {P I D : Type 0} (table : Table P) (instructions : Meaning I) (words : 
       data_size = w.data_size;
       text_size = w.text_size;
       text =
-          text_kept world.text_size m.latches.f (plans world.data_size world.text_size g m.latches w.reply) w.answer (instructions.view.byte m.instructions)
+          text_kept world.text_size m.latches.f (decodes world.data_size g m.latches w.reply).flow w.answer (instructions.view.byte m.instructions)
           (instructions.view.byte n.instructions) w.text_served
           ∙ k.text;
       data_longest = w.data_longest ∙ k.data_longest;
@@ -300,12 +308,12 @@ module _ {P I D : Type 0} (table : Table P) (instructions : Meaning I) (words : 
 
   -- ---- the clock in which it stops
 
-  kept_halted : (h : List Event) (m : Core P I D) (e : Event) (n : Core P I D) (stop : Stop) (k : Kept h m) → Live h k.reached m → m.latches.w ≡ Faulting stop.address stop.cause
+  kept_halted : (h : List Event) (m : Core P I D) (e : Event) (n : Core P I D) (stop : Stop) (k : Kept h m) → Live h k.reached m → m.latches.w ≡ Faulting stop
       → m.stopped ≡ None → m.counts.clocks < 4294967295 → Halted table instructions words stop m e n → Kept (h ++ e ∷ []) n
   kept_halted h m e n stop k l fault runs spent w =
       let a = k.accounted in
-      let here : HoldsW world (Ok k.reached) (Faulting stop.address stop.cause) = rw fault at l.chain.w in
-      let bytes : BytesSo world k.reached (Faulting stop.address stop.cause) (words.view.byte m.«data») = subst (λ z. BytesSo world k.reached z (words.view.byte m.«data»)) fault k.bytes in
+      let here : HoldsW world (Ok k.reached) (Faulting stop) = rw fault at l.chain.w in
+      let bytes : BytesSo world k.reached (Faulting stop) (words.view.byte m.«data») = subst (λ z. BytesSo world k.reached z (words.view.byte m.«data»)) fault k.bytes in
       let i = il.idle _ _ w.text_idle in
       let j = dl.idle _ _ w.data_idle in
       let none : e.retirement ≡ None = ap (λ (e : Event). e.retirement) w.told_so in

@@ -20,12 +20,8 @@ use Rattle.clocking.specs.declared.latch.Latch.TheVariants.{Empty, Faulting, Ful
 use Rattle.clocking.specs.declared.latch.Latches.{Latches}
 use Rattle.clocking.specs.declared.stage.Flow.{Flow}
 use Rattle.clocking.specs.declared.stage.Flow.TheVariants.{Moves, Stays, RollsBack}
-use Rattle.clocking.specs.declared.stage.Operand.{Operand}
-use Rattle.clocking.specs.declared.stage.Operand.TheVariants.{Value, Hazard}
 use Rattle.clocking.specs.declared.stage.DecodeOut.{DecodeOut}
 use Rattle.clocking.specs.declared.stage.ExecuteOut.{ExecuteOut}
-use Rattle.clocking.specs.declared.stage.Fetching.{Fetching}
-use Rattle.clocking.specs.declared.stage.Fetching.TheVariants.{Idle, Fault, Ask}
 
 -- how many stay before a stage
 abbrev staying : {T : Type 0} → Flow → Latch T → ℕ
@@ -43,7 +39,7 @@ told_balance e (Ok q) (Some (Err Outside)) = refl
 
 data_balance : (m : Latch Executed) (o : Result (Option Request) Cause) (r : Option Reply) → occupied (data_stage m o r).w + staying (data_stage m o r).flow m ≡ occupied m
 data_balance Empty o r = refl
-data_balance (Faulting a c) o r = refl
+data_balance (Faulting stop) o r = refl
 data_balance (Full e) o r = told_balance e o r
 
 -- M has what stayed there and what X gave; X is dropped after a rollback from data
@@ -61,41 +57,40 @@ checked_balance m d (Ok e) = turned_balance m d e (eqb e.next d.guess)
 execute_balance : (flow : Flow) (m : Latch Executed) (x : Latch Decoded) → Executes flow m x (execute_stage m x flow)
 execute_balance RollsBack m x = omega arith
 execute_balance Stays m Empty = omega arith
-execute_balance Stays m (Faulting a c) = omega arith
+execute_balance Stays m (Faulting stop) = omega arith
 execute_balance Stays m (Full d) = omega arith
 execute_balance Moves m Empty = refl
-execute_balance Moves m (Faulting a c) = refl
+execute_balance Moves m (Faulting stop) = refl
 execute_balance Moves m (Full d) = checked_balance m d (execute d)
 
 -- X has what stayed there and what D gave; D is dropped after any rollback
 abbrev Decodes : Flow → Latch Decoded → Latch Fetched → DecodeOut → Type 0
 Decodes flow x d o = occupied o.x + staying o.flow d + if_rolled flow (occupied d) ≡ staying flow x + occupied d
 
-with_balance : (x : Latch Decoded) (f : Fetched) (i : Instruction) (a b : Operand) → Decodes Moves x (Full f) (with_operands f i a b)
-with_balance x f i (Value a) (Value b) = refl
-with_balance x f i (Value a) Hazard = refl
-with_balance x f i Hazard (Value b) = refl
-with_balance x f i Hazard Hazard = refl
+with_balance : (x : Latch Decoded) (f : Fetched) (i : Instruction) (a b : Option ℕ) → Decodes Moves x (Full f) (with_operands f i a b)
+with_balance x f i (Some a) (Some b) = refl
+with_balance x f i (Some a) None = refl
+with_balance x f i None b = refl
 
-word_balance : (h : Register → Operand) (x : Latch Decoded) (f : Fetched) (o : Result Instruction Cause) → Decodes Moves x (Full f) (decode_word h f o)
+word_balance : (h : Register → Option ℕ) (x : Latch Decoded) (f : Fetched) (o : Result Instruction Cause) → Decodes Moves x (Full f) (decode_word h f o)
 word_balance h x f (Err c) = refl
 word_balance h x f (Ok i) = with_balance x f i (source h (first_source i)) (source h (second_source i))
 
-decode_balance : (h : Register → Operand) (flow : Flow) (x : Latch Decoded) (d : Latch Fetched) → Decodes flow x d (decode_stage h x d flow)
+decode_balance : (h : Register → Option ℕ) (flow : Flow) (x : Latch Decoded) (d : Latch Fetched) → Decodes flow x d (decode_stage h x d flow)
 decode_balance h RollsBack x d = omega arith
 decode_balance h Stays x Empty = omega arith
-decode_balance h Stays x (Faulting a c) = omega arith
+decode_balance h Stays x (Faulting stop) = omega arith
 decode_balance h Stays x (Full f) = omega arith
 decode_balance h Moves x Empty = refl
-decode_balance h Moves x (Faulting a c) = refl
+decode_balance h Moves x (Faulting stop) = refl
 decode_balance h Moves x (Full f) = word_balance h x f f.issued
 
 -- D has what stayed there and what is fetched
-placed_balance : (f : ℕ) (plan : Fetching) (x : Option Fetched) → occupied (fetches_on f plan x).d ≡ one_if (has_fetched plan x)
-placed_balance f Idle x = refl
-placed_balance f (Fault c) x = refl
-placed_balance f Ask None = refl
-placed_balance f Ask (Some x) = refl
+placed_balance : (f : ℕ) (asked : Result (Option Request) Cause) (x : Option Fetched) → occupied (fetches_on f asked x).d ≡ one_if (has_fetched asked x)
+placed_balance f (Err c) x = refl
+placed_balance f (Ok None) x = refl
+placed_balance f (Ok (Some q)) None = refl
+placed_balance f (Ok (Some q)) (Some x) = refl
 
 fetch_balance : (text f : ℕ) (d : Latch Fetched) (flow : Flow) (x : Option Fetched) (u : Option ℕ)
     → occupied (fetch_stage f d flow (fetching text f flow) x u).d ≡ staying flow d + one_if (has_fetched (fetching text f flow) x)

@@ -24,15 +24,15 @@ Broken (Ok s) = ⊥
 -- the latch holds what the state's instruction comes to; past a break nothing is said
 abbrev pub Holds : {T : Type 0} → (State → T → Result T Cause) → (State → Result T Cause) → Reach → Latch T → Type 0
 Holds f h r Empty = Unit {0}
-Holds f h (Err z) (Faulting a c) = Unit {0}
-Holds f h (Ok s) (Faulting a c) = (a ≡ s.address) × (Err c ≡ h s)
+Holds f h (Err z) (Faulting stop) = Unit {0}
+Holds f h (Ok s) (Faulting stop) = (stop.address ≡ s.address) × (Err stop.cause ≡ h s)
 Holds f h (Err z) (Full x) = Unit {0}
 Holds f h (Ok s) (Full x) = Ok x ≡ f s x
 
 -- where the chain goes behind the latch
 abbrev pub behind : {T : Type 0} → (T → State → Reach) → Reach → Latch T → Reach
 behind next r Empty = r
-behind next r (Faulting a c) = then r (λ s. Err c)
+behind next r (Faulting stop) = then r (λ s. Err stop.cause)
 behind next r (Full x) = then r (next x)
 
 -- fetching goes on at the state reached
@@ -52,7 +52,7 @@ guessed g s = cond (eqb s.address g) (Ok s) (Err FetchOutside)
 -- W does not stop the machine
 abbrev pub Flows : Latch Completed → Type 0
 Flows Empty = Unit {0}
-Flows (Faulting a c) = ⊥
+Flows (Faulting stop) = ⊥
 Flows (Full c) = Unit {0}
 
 module _ (world : World) where

@@ -14,91 +14,88 @@ use Rattle.clocking.specs.declared.latch.Completed.{Completed}
 use Rattle.clocking.specs.declared.latch.Latch.{Latch}
 use Rattle.clocking.specs.declared.latch.Latch.TheVariants.{Empty, Faulting, Full}
 use Rattle.clocking.specs.declared.stage.Flow.TheVariants.{Moves}
-use Rattle.clocking.specs.declared.stage.Operand.{Operand}
-use Rattle.clocking.specs.declared.stage.Operand.TheVariants.{Value, Hazard}
 use Rattle.std.proofs.lemmas.Bool.{both_ways, and_from}
 use Rattle.rv32i.specs.Effects.{request, loaded, first_source, second_source}
-use Rattle.rv32i.specs.declared.cause.Cause.TheVariants.{JumpMisaligned, FetchOutside}
 use Rattle.rv32i.specs.declared.instruction.Instruction.{Instruction}
 use Rattle.rv32i.specs.declared.registers.Registers.{Registers}
 use Rattle.clocking.specs.Clock.{plans, latches_after}
 use Rattle.clocking.specs.Ports.{Table, arrival}
-use Rattle.clocking.specs.Stages.{data_request, sent, complete, told, execute, turned, checked, execute_stage, gives, or_else, value_of, values_in_flight, source, with_operands, decode_word, decode_stage, x_result, fetching, fetch_request, fetches_on, fetch_stage}
+use Rattle.clocking.specs.Stages.{data_request, sent, complete, told, execute, turned, checked, execute_stage, gives, or_else, value_of, values_in_flight, source, with_operands, decode_word, decode_stage, x_result, fetching, fetches_on, fetch_stage}
 use Rattle.clocking.specs.declared.latch.Latches.{Latches}
 use Rattle.clocking.specs.declared.stage.DataOut.{DataOut}
 use Rattle.clocking.specs.declared.stage.DecodeOut.{DecodeOut}
 use Rattle.clocking.specs.declared.stage.ExecuteOut.{ExecuteOut}
 use Rattle.clocking.specs.declared.stage.FetchOut.{FetchOut}
-use Rattle.clocking.specs.declared.stage.Fetching.TheVariants.{Fault, Ask}
 use Rattle.clocking.proofs.Link.{waits_for, Worn}
 use Rattle.clocking.proofs.Chain.{Flows}
+use Rattle.clocking.proofs.Fetch.{asked_if}
 use Rattle.clocking.proofs.Served.{Bytes}
 
 -- the waits left for fetching at f, none where it cannot be read
 abbrev pub fetch_waits : (Request → ℕ) → ℕ → ℕ → ℕ
-fetch_waits t text f = waits_for t (fetch_request f (fetching text f Moves))
+fetch_waits t text f = waits_for t (sent (fetching text f Moves))
 
 -- size and text are the memories' sizes, most the data memory's longest wait, p and t the waits left for a request
 abbrev pub count : ℕ → ℕ → ℕ → (Request → ℕ) → (Request → ℕ) → Latch Completed → Latch Executed → Latch Decoded → Latch Fetched → ℕ → ℕ
 count size text most p t (Full c) m x d f = 1
-count size text most p t (Faulting a c) m x d f = 1
+count size text most p t (Faulting stop) m x d f = 1
 count size text most p t Empty (Full e) x d f = 2 + waits_for p (sent (request size e.access e.result e.b))
-count size text most p t Empty (Faulting a c) x d f = 2
+count size text most p t Empty (Faulting stop) x d f = 2
 count size text most p t Empty Empty (Full y) d f = 3 + most
-count size text most p t Empty Empty (Faulting a c) d f = 3 + most
+count size text most p t Empty Empty (Faulting stop) d f = 3 + most
 count size text most p t Empty Empty Empty (Full y) f = 4 + most
-count size text most p t Empty Empty Empty (Faulting a c) f = 4 + most
+count size text most p t Empty Empty Empty (Faulting stop) f = 4 + most
 count size text most p t Empty Empty Empty Empty f = 5 + most + fetch_waits t text f
 
 -- an empty pipeline behind W has just been told to wait for its next instruction
 abbrev pub Lulled : ℕ → ℕ → (Request → ℕ) → Latch Completed → Latch Executed → Latch Decoded → Latch Fetched → ℕ → Type 0
 Lulled text least t Empty m x d f = Unit {0}
-Lulled text least t (Faulting a c) m x d f = Unit {0}
+Lulled text least t (Faulting stop) m x d f = Unit {0}
 Lulled text least t (Full c) (Full e) x d f = Unit {0}
-Lulled text least t (Full c) (Faulting a z) x d f = Unit {0}
+Lulled text least t (Full c) (Faulting stop) x d f = Unit {0}
 Lulled text least t (Full c) Empty (Full y) d f = Unit {0}
-Lulled text least t (Full c) Empty (Faulting a z) d f = Unit {0}
+Lulled text least t (Full c) Empty (Faulting stop) d f = Unit {0}
 Lulled text least t (Full c) Empty Empty (Full y) f = Unit {0}
-Lulled text least t (Full c) Empty Empty (Faulting a z) f = Unit {0}
+Lulled text least t (Full c) Empty Empty (Faulting stop) f = Unit {0}
 Lulled text least t (Full c) Empty Empty Empty f = fetch_waits t text f < least
 
 -- ---- where X and M are empty there is no hazard
 
-abbrev Ready : Operand → Type 0
-Ready (Value v) = Unit {0}
-Ready Hazard = ⊥
+abbrev Ready : Option ℕ → Type 0
+Ready (Some v) = Unit {0}
+Ready None = ⊥
 
 abbrev Filled : {T : Type 0} → Latch T → Type 0
 Filled Empty = ⊥
-Filled (Faulting a c) = Unit {0}
+Filled (Faulting stop) = Unit {0}
 Filled (Full x) = Unit {0}
 
-ready_by : (b : Bool) (v w : ℕ) → Ready (or_else (cond b (Some (Value v)) None) (Value w))
+ready_by : (b : Bool) (v w : ℕ) → Ready (or_else (cond b (Some (Some v)) None) (Some w))
 ready_by true v w = tt
 ready_by false v w = tt
 
 ready : (answer w : Latch Completed) (g : Registers) (r : Register) → Ready (values_in_flight Empty Empty answer w g r)
 ready answer Empty g r = tt
-ready answer (Faulting a c) g r = tt
+ready answer (Faulting stop) g r = tt
 ready answer (Full c) g r = ready_by (gives c.rd r) c.value (value_of g r)
 
-ready_source : (h : Register → Operand) → ((r : Register) → Ready (h r)) → (o : Option Register) → Ready (source h o)
+ready_source : (h : Register → Option ℕ) → ((r : Register) → Ready (h r)) → (o : Option Register) → Ready (source h o)
 ready_source h k None = tt
 ready_source h k (Some r) = k r
 
-fills_by : (f : Fetched) (i : Instruction) (a b : Operand) → Ready a → Ready b → Filled (with_operands f i a b).x
-fills_by f i (Value a) (Value b) h k = tt
-fills_by f i (Value a) Hazard h k = k
-fills_by f i Hazard b h k = absurd h
+fills_by : (f : Fetched) (i : Instruction) (a b : Option ℕ) → Ready a → Ready b → Filled (with_operands f i a b).x
+fills_by f i (Some a) (Some b) h k = tt
+fills_by f i (Some a) None h k = k
+fills_by f i None b h k = absurd h
 
-fills : (h : Register → Operand) → ((r : Register) → Ready (h r)) → (f : Fetched) (o : Result Instruction Cause) → Filled (decode_word h f o).x
+fills : (h : Register → Option ℕ) → ((r : Register) → Ready (h r)) → (f : Fetched) (o : Result Instruction Cause) → Filled (decode_word h f o).x
 fills h k f (Err c) = tt
 fills h k f (Ok i) = fills_by f i (source h (first_source i)) (source h (second_source i)) (ready_source h k (first_source i)) (ready_source h k (second_source i))
 
 -- what a clock does to the countdown, by W: it falls, or is bounded anew
 abbrev pub Down : ℕ → Latch Completed → ℕ → ℕ → Type 0
 Down bound Empty before after = after < before
-Down bound (Faulting a c) before after = ⊥
+Down bound (Faulting stop) before after = ⊥
 Down bound (Full c) before after = after ≤ bound
 
 -- ---- fetching
@@ -116,7 +113,7 @@ module _ (size text most least : ℕ) (p p' t t' : Request → ℕ) (small : (q 
 
   filled_x : (x : Latch Decoded) (d : Latch Fetched) (f : ℕ) → Filled x → after Empty Empty x d f ≡ 3 + most
   filled_x Empty d f h = absurd h
-  filled_x (Faulting a c) d f h = refl
+  filled_x (Faulting stop) d f h = refl
   filled_x (Full y) d f h = refl
 
   -- an instruction in M goes to W, or waits
@@ -128,7 +125,7 @@ module _ (size text most least : ℕ) (p p' t t' : Request → ℕ) (small : (q 
   by_m e x x' d' f' (Ok q) (Some (Ok Did)) h = omega arith
   by_m e x x' d' f' (Ok q) (Some (Err Outside)) h = omega arith
   by_m e Empty x' d' f' (Ok q) (Some (Err Wait)) h = omega arith
-  by_m e (Faulting a c) x' d' f' (Ok q) (Some (Err Wait)) h = omega arith
+  by_m e (Faulting stop) x' d' f' (Ok q) (Some (Err Wait)) h = omega arith
   by_m e (Full y) x' d' f' (Ok q) (Some (Err Wait)) h = omega arith
 
   -- one in X goes to M
@@ -146,7 +143,7 @@ module _ (size text most least : ℕ) (p p' t t' : Request → ℕ) (small : (q 
 
   filled_d : (d : Latch Fetched) (f : ℕ) → Filled d → after Empty Empty Empty d f ≡ 4 + most
   filled_d Empty f h = absurd h
-  filled_d (Faulting a c) f h = refl
+  filled_d (Faulting stop) f h = refl
   filled_d (Full y) f h = refl
 
   waits_few : (q : Option Request) → waits_for t q ≤ least
@@ -158,20 +155,20 @@ module _ (size text most least : ℕ) (p p' t t' : Request → ℕ) (small : (q 
     abbrev Arrived : FetchOut → Type 0
     Arrived o = Filled o.d ⊎ ((o.d ≡ Empty) × (o.f ≡ f) × (fetch_waits t' text f < fetch_waits t text f))
 
-    asked : (a : Option Reply) → eqb (f % 4) 0 ≡ true → ltb f text ≡ true → Bytes text (Some (Read f)) a u v → Worn a (Some (Read f)) t t' → Arrived (fetches_on f Ask (arrival table q f a))
+    asked : (a : Option Reply) → eqb (f % 4) 0 ≡ true → ltb f text ≡ true → Bytes text (Some (Read f)) a u v → Worn a (Some (Read f)) t t' → Arrived (fetches_on f (Ok (Some (Read f))) (arrival table q f a))
     asked None e i h w = absurd h
     asked (Some (Ok (Word x))) e i h w = inl tt
     asked (Some (Ok Did)) e i h w = absurd h
     asked (Some (Err Wait)) e i h w = inr (refl, refl, rw (asks_read t text f e i, asks_read t' text f e i) w)
     asked (Some (Err Outside)) e i h w = absurd (both_ways _ h.0 (and_from _ _ e i))
 
-    arrived_by : (a : Option Reply) (b d : Bool) → eqb (f % 4) 0 ≡ b → ltb f text ≡ d → Bytes text (fetch_request f (cond b (cond d Ask (Fault FetchOutside)) (Fault JumpMisaligned))) a u v
-        → Worn a (fetch_request f (cond b (cond d Ask (Fault FetchOutside)) (Fault JumpMisaligned))) t t' → Arrived (fetches_on f (cond b (cond d Ask (Fault FetchOutside)) (Fault JumpMisaligned)) (arrival table q f a))
+    arrived_by : (a : Option Reply) (b d : Bool) → eqb (f % 4) 0 ≡ b → ltb f text ≡ d → Bytes text (sent (asked_if f b d)) a u v
+        → Worn a (sent (asked_if f b d)) t t' → Arrived (fetches_on f (asked_if f b d) (arrival table q f a))
     arrived_by a true true e i h w = asked a e i h w
     arrived_by a true false e i h w = inl tt
     arrived_by a false d e i h w = inl tt
 
-    arrived : (a : Option Reply) → Bytes text (fetch_request f (fetching text f Moves)) a u v → Worn a (fetch_request f (fetching text f Moves)) t t' → Arrived (fetches_on f (fetching text f Moves) (arrival table q f a))
+    arrived : (a : Option Reply) → Bytes text (sent (fetching text f Moves)) a u v → Worn a (sent (fetching text f Moves)) t t' → Arrived (fetches_on f (fetching text f Moves) (arrival table q f a))
     arrived a h w = arrived_by a (eqb (f % 4) 0) (ltb f text) refl refl h w
 
     falls_by : (o : FetchOut) → Arrived o → after Empty Empty Empty o.d o.f < 5 + most + fetch_waits t text f
@@ -188,9 +185,9 @@ module _ (size text most least : ℕ) (p p' t t' : Request → ℕ) (small : (q 
       where
         lulled_full : (d : Latch Fetched) (f : ℕ) (c : Completed) → Filled d → Lulled text least t' (Full c) Empty Empty d f
         lulled_full Empty f c h = absurd h
-        lulled_full (Faulting a z) f c h = tt
+        lulled_full (Faulting stop) f c h = tt
         lulled_full (Full y) f c h = tt
-    lulled_by o c (inr h) = rw (h.0, h.1) (let k = h.2 in let m = waits_few (fetch_request f (fetching text f Moves)) in omega arith)
+    lulled_by o c (inr h) = rw (h.0, h.1) (let k = h.2 in let m = waits_few (sent (fetching text f Moves)) in omega arith)
 
   -- ---- one clock
 
@@ -202,17 +199,17 @@ module _ (size text most least : ℕ) (p p' t t' : Request → ℕ) (small : (q 
         after n.w n.m n.x n.d n.f
 
     abbrev TextAsked : Latches → Type 0
-    TextAsked k = Bytes text (fetch_request k.f (plans size text g k reply)) answer u v × Worn answer (fetch_request k.f (plans size text g k reply)) t t'
+    TextAsked k = Bytes text (sent (plans size text g k reply)) answer u v × Worn answer (sent (plans size text g k reply)) t t'
 
     -- a clock in which nothing retires
     falls : (f : ℕ) (d : Latch Fetched) (x : Latch Decoded) (m : Latch Executed) → Worn reply (sent (data_request size m)) p p' → TextAsked (record { f = f; d = d; x = x; m = m; w = Empty })
         → ends_at (record { f = f; d = d; x = x; m = m; w = Empty }) < count size text most p t Empty m x d f
     falls f d x (Full e) h w = by_m e x _ _ _ (request size e.access e.result e.b) reply h
-    falls f d x (Faulting b c) h w = omega arith
+    falls f d x (Faulting stop) h w = omega arith
     falls f d (Full y) Empty h w = by_x y.address y.guess (execute y) _ _ _
-    falls f d (Faulting b c) Empty h w = omega arith
+    falls f d (Faulting stop) Empty h w = omega arith
     falls f (Full y) Empty Empty h w = by_d _ _ _ (fills _ (ready Empty Empty g) y y.issued)
-    falls f (Faulting b c) Empty Empty h w = omega arith
+    falls f (Faulting stop) Empty Empty h w = omega arith
     falls f Empty Empty Empty h w = falls_by table q f u v _ (arrived table q f u v answer w.0 w.1)
 
     -- a clock in which one retires
@@ -228,22 +225,22 @@ module _ (size text most least : ℕ) (p p' t t' : Request → ℕ) (small : (q 
         waits_old : (q : Option Request) → waits_for p q ≤ most
         waits_old None = omega arith
         waits_old (Some q) = s q
-    bounds f d x (Faulting b z) c h w l s = omega arith
+    bounds f d x (Faulting stop) c h w l s = omega arith
     bounds f d (Full y) Empty c h w l s =
         let k : ends_at (record { f = f; d = d; x = Full y; m = Empty; w = Full c }) < 3 + most = by_x y.address y.guess (execute y) _ _ _ in
         omega arith
-    bounds f d (Faulting b z) Empty c h w l s = omega arith
+    bounds f d (Faulting stop) Empty c h w l s = omega arith
     bounds f (Full y) Empty Empty c h w l s =
         let k : ends_at (record { f = f; d = Full y; x = Empty; m = Empty; w = Full c }) < 4 + most = by_d _ _ _ (fills _ (ready Empty (Full c) g) y y.issued) in
         omega arith
-    bounds f (Faulting b z) Empty Empty c h w l s = omega arith
+    bounds f (Faulting stop) Empty Empty c h w l s = omega arith
     bounds f Empty Empty Empty c h w l s = bounds_by table q f u v _ (arrived table q f u v answer w.0 w.1) l
 
     pub down : (f : ℕ) (d : Latch Fetched) (x : Latch Decoded) (m : Latch Executed) (w : Latch Completed) → Flows w → Worn reply (sent (data_request size m)) p p'
         → TextAsked (record { f = f; d = d; x = x; m = m; w = w }) → Lulled text least t w m x d f → ((r : Request) → p r ≤ most)
         → Down (least + most + 3) w (count size text most p t w m x d f) (ends_at (record { f = f; d = d; x = x; m = m; w = w }))
     down f d x m Empty k h w l s = falls f d x m h w
-    down f d x m (Faulting a c) k h w l s = absurd k
+    down f d x m (Faulting stop) k h w l s = absurd k
     down f d x m (Full c) k h w l s = let z = bounds f d x m c h w l s in omega arith
 
     -- ---- what a clock leaves of a lull, by what the data stage gave
@@ -261,11 +258,11 @@ module _ (size text most least : ℕ) (p p' t t' : Request → ℕ) (small : (q 
     Lulls k o = Lulled text least t' o.w (executes_by k o).m (decodes_by k o).x (fetches_by k o).d (fetches_by k o).f
 
     abbrev TextBy : Latches → DataOut → Type 0
-    TextBy k o = Bytes text (fetch_request k.f (fetching text k.f (decodes_by k o).flow)) answer u v × Worn answer (fetch_request k.f (fetching text k.f (decodes_by k o).flow)) t t'
+    TextBy k o = Bytes text (sent (fetching text k.f (decodes_by k o).flow)) answer u v × Worn answer (sent (fetching text k.f (decodes_by k o).flow)) t t'
 
     lull_m : (c : Completed) (m : Latch Executed) (x : Latch Decoded) (d : Latch Fetched) (f : ℕ) → Filled m → Lulled text least t' (Full c) m x d f
     lull_m c Empty x d f h = absurd h
-    lull_m c (Faulting a z) x d f h = tt
+    lull_m c (Faulting stop) x d f h = tt
     lull_m c (Full e) x d f h = tt
 
     fills_turn : (e : Executed) (b : Bool) → Filled (turned e b).m
@@ -282,13 +279,12 @@ module _ (size text most least : ℕ) (p p' t t' : Request → ℕ) (small : (q 
         (fetch_stage f (Full y) o.flow (fetching text f o.flow) (arrival table q f answer) None).d
         (fetch_stage f (Full y) o.flow (fetching text f o.flow) (arrival table q f answer) None).f
 
-    kept_with : (c : Completed) (f : ℕ) (y : Fetched) (i : Instruction) (a b : Operand) → KeptFull c f y (with_operands y i a b)
-    kept_with c f y i (Value a) (Value b) = tt
-    kept_with c f y i (Value a) Hazard = tt
-    kept_with c f y i Hazard (Value b) = tt
-    kept_with c f y i Hazard Hazard = tt
+    kept_with : (c : Completed) (f : ℕ) (y : Fetched) (i : Instruction) (a b : Option ℕ) → KeptFull c f y (with_operands y i a b)
+    kept_with c f y i (Some a) (Some b) = tt
+    kept_with c f y i (Some a) None = tt
+    kept_with c f y i None b = tt
 
-    kept_word : (h : Register → Operand) (c : Completed) (f : ℕ) (y : Fetched) (o : Result Instruction Cause) → KeptFull c f y (decode_word h y o)
+    kept_word : (h : Register → Option ℕ) (c : Completed) (f : ℕ) (y : Fetched) (o : Result Instruction Cause) → KeptFull c f y (decode_word h y o)
     kept_word h c f y (Err z) = tt
     kept_word h c f y (Ok i) = kept_with c f y i (source h (first_source i)) (source h (second_source i))
 
@@ -296,9 +292,9 @@ module _ (size text most least : ℕ) (p p' t t' : Request → ℕ) (small : (q 
     lull_by : (f : ℕ) (d : Latch Fetched) (x : Latch Decoded) (e : Executed) (w : Latch Completed) (c : Completed)
         → TextBy (record { f = f; d = d; x = x; m = Full e; w = w }) (record { w = Full c; flow = Moves }) → Lulls (record { f = f; d = d; x = x; m = Full e; w = w }) (record { w = Full c; flow = Moves })
     lull_by f d (Full y) e w c h = lull_m c (checked y.address y.guess (execute y)).m _ _ _ (fills_m y.address y.guess (execute y))
-    lull_by f d (Faulting a z) e w c h = tt
+    lull_by f d (Faulting stop) e w c h = tt
     lull_by f (Full y) Empty e w c h = kept_word _ c f y y.issued
-    lull_by f (Faulting a z) Empty e w c h = tt
+    lull_by f (Faulting stop) Empty e w c h = tt
     lull_by f Empty Empty e w c h = lulled_by table q f u v _ c (arrived table q f u v answer h.0 h.1)
 
     lull_told : (f : ℕ) (d : Latch Fetched) (x : Latch Decoded) (e : Executed) (w : Latch Completed) (o : Result (Option Request) Cause) (r : Option Reply)
@@ -314,25 +310,25 @@ module _ (size text most least : ℕ) (p p' t t' : Request → ℕ) (small : (q 
         → let n : Latches = latches_after size text g (record { f = f; d = d; x = x; m = m; w = w }) reply (arrival table q f answer) in
         Lulled text least t' n.w n.m n.x n.d n.f
     lulls f d x Empty w h = tt
-    lulls f d x (Faulting a c) w h = tt
+    lulls f d x (Faulting stop) w h = tt
     lulls f d x (Full e) w h = lull_told f d x e w (request size e.access e.result e.b) reply h
 
 -- ---- what it can be at most, and that it is never 0
 
 pub least_one : (size text most : ℕ) (p t : Request → ℕ) (w : Latch Completed) (m : Latch Executed) (x : Latch Decoded) (d : Latch Fetched) (f : ℕ) → 1 ≤ count size text most p t w m x d f
 least_one size text most p t (Full c) m x d f = omega arith
-least_one size text most p t (Faulting a c) m x d f = omega arith
+least_one size text most p t (Faulting stop) m x d f = omega arith
 least_one size text most p t Empty (Full e) x d f = omega arith
-least_one size text most p t Empty (Faulting a c) x d f = omega arith
+least_one size text most p t Empty (Faulting stop) x d f = omega arith
 least_one size text most p t Empty Empty (Full y) d f = omega arith
-least_one size text most p t Empty Empty (Faulting a c) d f = omega arith
+least_one size text most p t Empty Empty (Faulting stop) d f = omega arith
 least_one size text most p t Empty Empty Empty (Full y) f = omega arith
-least_one size text most p t Empty Empty Empty (Faulting a c) f = omega arith
+least_one size text most p t Empty Empty Empty (Faulting stop) f = omega arith
 least_one size text most p t Empty Empty Empty Empty f = omega arith
 
 -- of a machine that has just been loaded
 pub at_first : (size text most least : ℕ) (p t : Request → ℕ) → ((q : Request) → t q ≤ least) → (f : ℕ) → count size text most p t Empty Empty Empty Empty f ≤ 5 + most + least
-at_first size text most least p t few f = let k = waits_few (fetch_request f (fetching text f Moves)) in omega arith
+at_first size text most least p t few f = let k = waits_few (sent (fetching text f Moves)) in omega arith
   where
     waits_few : (q : Option Request) → waits_for t q ≤ least
     waits_few None = omega arith

@@ -13,8 +13,6 @@ use Rattle.clocking.specs.declared.latch.Latch.{Latch}
 use Rattle.clocking.specs.declared.latch.Latch.TheVariants.{Empty, Faulting, Full}
 use Rattle.clocking.specs.declared.stage.Flow.{Flow}
 use Rattle.clocking.specs.declared.stage.Flow.TheVariants.{Moves, Stays, RollsBack}
-use Rattle.clocking.specs.declared.stage.Operand.{Operand}
-use Rattle.clocking.specs.declared.stage.Operand.TheVariants.{Value, Hazard}
 use Rattle.std.proofs.lemmas.Bool.{both_ways}
 use Rattle.rv32i.specs.Effects.{request, loaded}
 use Rattle.rv32i.proofs.Laws.{InRange, in_range}
@@ -104,7 +102,7 @@ module _ (world : World) where
     -- the state reached behind M stays the same
     pub same : behindM world (behindW world (Ok s) d.w) (left d.flow old) ≡ behindM world (Ok s) old
     pub back : Back d.flow (behindM world (Ok s) old)
-    pub source : (f : Register → Operand) → Known f (Ok s) → Known (λ r. or_else (from_m old d.w r) (f r)) (behindM world (Ok s) old)
+    pub source : (f : Register → Option ℕ) → Known f (Ok s) → Known (λ r. or_else (from_m old d.w r) (f r)) (behindM world (Ok s) old)
 
   stopped_same : (s : State) (c : Cause) (r : Reach) → Pairs s (Err c) r → ◌≡◌ {A = Reach} (Err c) r
   stopped_same s c (Err k) h = ap {B = Reach} Err (sym h)
@@ -114,17 +112,17 @@ module _ (world : World) where
   stopped_back s c (Err k) h = tt
   stopped_back s c (Ok t) h = absurd h
 
-  broken_known : (f : Register → Operand) (r : Reach) → Broken r → Known f r
+  broken_known : (f : Register → Option ℕ) (r : Reach) → Broken r → Known f r
   broken_known f (Err c) h = tt
   broken_known f (Ok s) h = absurd h
 
-  known_done : (s : State) (e : Executed) (v : ℕ) (r : Reach) → Pairs s (Ok (complete e v)) r → (f : Register → Operand) → Known f (Ok s) → Known (layer e.rd (Value v) f) r
+  known_done : (s : State) (e : Executed) (v : ℕ) (r : Reach) → Pairs s (Ok (complete e v)) r → (f : Register → Option ℕ) → Known f (Ok s) → Known (layer e.rd (Some v) f) r
   known_done s e v (Err c) h f k = tt
-  known_done s e v (Ok t) h f k = known_layer f s t e.rd (Value v) v h (λ u q. cc) k
+  known_done s e v (Ok t) h f k = known_layer f s t e.rd (Some v) v h (λ u q. cc) k
 
-  known_wait : (s : State) (e : Executed) (r : Reach) → Runs s (Ok e) r → (f : Register → Operand) → Known f (Ok s) → Known (layer e.rd Hazard f) r
+  known_wait : (s : State) (e : Executed) (r : Reach) → Runs s (Ok e) r → (f : Register → Option ℕ) → Known f (Ok s) → Known (layer e.rd None f) r
   known_wait s e (Err c) h f k = tt
-  known_wait s e (Ok t) h f k = known_layer f s t e.rd Hazard h.value h.registers (λ u q. cc) k
+  known_wait s e (Ok t) h f k = known_layer f s t e.rd None h.value h.registers (λ u q. cc) k
 
   module _ (s : State) (n : ℕ → ℕ) (e : Executed) (i : Ok e ≡ executed_at world s) where
     finishes : (v : ℕ) → Comes s n e v → DataKept s (Full e) n (completes_with e v)
@@ -141,7 +139,7 @@ module _ (world : World) where
     here = subst (λ (z : Result Executed Cause). At s z) (sym i) (at world s)
 
     -- it stops here
-    halts : (c : Cause) → Err c ≡ completed_at world s → n ≡ bytes_at s (after_at world s) → DataKept s (Full e) n (record { w = Faulting e.address c; flow = RollsBack })
+    halts : (c : Cause) → Err c ≡ completed_at world s → n ≡ bytes_at s (after_at world s) → DataKept s (Full e) n (record { w = Faulting (record { address = e.address; cause = c }); flow = RollsBack })
     halts c h m =
         let p : Pairs s (Err c) (after_at world s) = rw h (pairs world s) in
         let b = stopped_back s c (after_at world s) p in
@@ -190,8 +188,8 @@ module _ (world : World) where
     back = tt;
     source = λ f k. k;
   }
-  data_kept s n t (Faulting a c) h w = record {
-    w = (h.0, faulting_same s c h.1);
+  data_kept s n t (Faulting stop) h w = record {
+    w = (h.0, faulting_same s stop.cause h.1);
     memory = idle_same world.data_size t s.bytes n w;
     m = tt;
     same = refl;

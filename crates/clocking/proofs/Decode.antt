@@ -1,16 +1,15 @@
 -- The decode stage keeps the chain. Assumes nothing.
-use Rattle.std.proofs.Common.{◌≡◌, ℕ, Ok, Err, Option, Result, sym, refl, ap, ◌∙◌}
+use Rattle.std.proofs.Common.{◌≡◌, ℕ, Some, None, Ok, Err, Option, Result, sym, refl, ap, ◌∙◌}
 use Rattle.rv32i.specs.declared.cause.Cause.{Cause}
 use Rattle.rv32i.specs.declared.register.Register.{Register}
 use Rattle.sequential.specs.Sequential.{State, World, then}
+use Rattle.sequential.specs.declared.record.Stop.{Stop}
 use Rattle.clocking.specs.declared.latch.Fetched.{Fetched}
 use Rattle.clocking.specs.declared.latch.Decoded.{Decoded}
 use Rattle.clocking.specs.declared.latch.Latch.{Latch}
 use Rattle.clocking.specs.declared.latch.Latch.TheVariants.{Empty, Faulting, Full}
 use Rattle.clocking.specs.declared.stage.Flow.{Flow}
 use Rattle.clocking.specs.declared.stage.Flow.TheVariants.{Moves, Stays, RollsBack}
-use Rattle.clocking.specs.declared.stage.Operand.{Operand}
-use Rattle.clocking.specs.declared.stage.Operand.TheVariants.{Value, Hazard}
 use Rattle.rv32i.specs.Effects.{first_source, second_source}
 use Rattle.words.specs.Issues.{issued}
 use Rattle.rv32i.specs.Registers.{operand}
@@ -23,7 +22,7 @@ use Rattle.clocking.proofs.Execute.{Turned, Onward}
 use Rattle.clocking.proofs.Forward.{KnownRead}
 use Rattle.clocking.proofs.Partial.{operated, fetched_at, decoded_at, executed_at, done_at, after_at}
 
-abbrev pub SourcedRead : Flow → (Register → Operand) → Reach → Type 0
+abbrev pub SourcedRead : Flow → (Register → Option ℕ) → Reach → Type 0
 SourcedRead Moves f r = KnownRead f r
 SourcedRead Stays f r = Unit {0}
 SourcedRead RollsBack f r = Unit {0}
@@ -79,14 +78,13 @@ module _ (world : World) where
   ends_if : (s : State) (c : Cause) (g : ℕ) → Err c ≡ decoded_at world s 0 → ◌≡◌ {A = Reach} (Err c) (on_if world g s)
   ends_if s c g e = rw (← ends s c e)
 
-  module _ (reads : Register → Operand) (u : Option ℕ) where
-    both : (s : State) (f : Fetched) (i : Instruction) → WordOf s f → f.issued ≡ Ok i → (x y : Operand)
-        → ((v : ℕ) → x ≡ Value v → v ≡ operand s.registers (first_source i)) → ((v : ℕ) → y ≡ Value v → v ≡ operand s.registers (second_source i))
+  module _ (reads : Register → Option ℕ) (u : Option ℕ) where
+    both : (s : State) (f : Fetched) (i : Instruction) → WordOf s f → f.issued ≡ Ok i → (x y : Option ℕ)
+        → ((v : ℕ) → x ≡ Some v → v ≡ operand s.registers (first_source i)) → ((v : ℕ) → y ≡ Some v → v ≡ operand s.registers (second_source i))
         → DecodeKept (Ok s) (Ok s) (Full f) u (with_operands f i x y)
-    both s f i z q (Value a) (Value b) h k = record { x = rw (decoded_so s f z f.guess, q, h a refl, k b refl, z.here); rests = refl }
-    both s f i z q (Value a) Hazard h k = record { x = tt; rests = refl }
-    both s f i z q Hazard (Value b) h k = record { x = tt; rests = refl }
-    both s f i z q Hazard Hazard h k = record { x = tt; rests = refl }
+    both s f i z q (Some a) (Some b) h k = record { x = rw (decoded_so s f z f.guess, q, h a refl, k b refl, z.here); rests = refl }
+    both s f i z q (Some a) None h k = record { x = tt; rests = refl }
+    both s f i z q None b h k = record { x = tt; rests = refl }
 
     issues_none : (s : State) (f : Fetched) (c : Cause) → WordOf s f → f.issued ≡ Err c → Err c ≡ decoded_at world s 0
     issues_none s f c z q = rw (decoded_so s f z 0, q)
@@ -95,29 +93,28 @@ module _ (world : World) where
     by_word s f z k (Err c) q = record { x = (z.here, issues_none s f c z q); rests = ends_if s c f.guess (issues_none s f c z q) }
     by_word s f z k (Ok i) q = both s f i z q (source reads (first_source i)) (source reads (second_source i)) (k (first_source i)) (k (second_source i))
 
-    both_broken : (c : Cause) (f : Fetched) (i : Instruction) (x y : Operand) → DecodeKept (Err c) (Err c) (Full f) u (with_operands f i x y)
-    both_broken c f i (Value a) (Value b) = record { x = tt; rests = refl }
-    both_broken c f i (Value a) Hazard = record { x = tt; rests = refl }
-    both_broken c f i Hazard (Value b) = record { x = tt; rests = refl }
-    both_broken c f i Hazard Hazard = record { x = tt; rests = refl }
+    both_broken : (c : Cause) (f : Fetched) (i : Instruction) (x y : Option ℕ) → DecodeKept (Err c) (Err c) (Full f) u (with_operands f i x y)
+    both_broken c f i (Some a) (Some b) = record { x = tt; rests = refl }
+    both_broken c f i (Some a) None = record { x = tt; rests = refl }
+    both_broken c f i None b = record { x = tt; rests = refl }
 
     by_broken : (c : Cause) (f : Fetched) (o : Result Instruction Cause) → DecodeKept (Err c) (Err c) (Full f) u (decode_word reads f o)
     by_broken c f (Err z) = record { x = tt; rests = refl }
     by_broken c f (Ok i) = both_broken c f i (source reads (first_source i)) (source reads (second_source i))
 
-    faulting_held : (r : Reach) (a : ℕ) (c : Cause) → HoldsD world r (Faulting a c) → HoldsX world r (Faulting a c)
-    faulting_held (Err z) a c h = tt
-    faulting_held (Ok s) a c h = (h.0, faulting_so s c h.1)
+    faulting_held : (r : Reach) (stop : Stop) → HoldsD world r (Faulting stop) → HoldsX world r (Faulting stop)
+    faulting_held (Err z) stop h = tt
+    faulting_held (Ok s) stop h = (h.0, faulting_so s stop.cause h.1)
 
     moves_kept : (r : Reach) (d : Latch Fetched) → HoldsD world r d → KnownRead reads r → DecodeKept r r d u (decode_moves reads d)
     moves_kept r Empty h k = record { x = tt; rests = refl }
-    moves_kept r (Faulting a c) h k = record { x = faulting_held r a c h; rests = refl }
+    moves_kept r (Faulting stop) h k = record { x = faulting_held r stop h; rests = refl }
     moves_kept (Err c) (Full f) h k = by_broken c f f.issued
     moves_kept (Ok s) (Full f) h k = by_word s f (word_of s f h) k f.issued refl
 
     stays_kept : (r : Reach) (x : Latch Decoded) (d : Latch Fetched) → HoldsX world r x → DecodeKept r (behindX world r x) d u (decode_stays x d)
     stays_kept r x Empty h = record { x = h; rests = refl }
-    stays_kept r x (Faulting a c) h = record { x = h; rests = refl }
+    stays_kept r x (Faulting stop) h = record { x = h; rests = refl }
     stays_kept r x (Full f) h = record { x = h; rests = refl }
 
     pub decode_kept : (flow : Flow) (r q : Reach) (x : Latch Decoded) (d : Latch Fetched) → HoldsX world r x → HoldsD world (behindX world r x) d → Onward world flow u r x q

@@ -3,13 +3,13 @@ use Rattle.std.proofs.Common.{◌≡◌, ℕ, Bool, true, false, cond, eqb, Some
 use Rattle.rv32i.specs.declared.cause.Cause.{Cause}
 use Rattle.rv32i.specs.declared.register.Register.{Register}
 use Rattle.sequential.specs.Sequential.{State, World, then}
+use Rattle.sequential.specs.declared.record.Stop.{Stop}
 use Rattle.clocking.specs.declared.latch.Decoded.{Decoded}
 use Rattle.clocking.specs.declared.latch.Executed.{Executed}
 use Rattle.clocking.specs.declared.latch.Latch.{Latch}
 use Rattle.clocking.specs.declared.latch.Latch.TheVariants.{Empty, Faulting, Full}
 use Rattle.clocking.specs.declared.stage.Flow.{Flow}
 use Rattle.clocking.specs.declared.stage.Flow.TheVariants.{Moves, Stays, RollsBack}
-use Rattle.clocking.specs.declared.stage.Operand.{Operand}
 use Rattle.rv32i.specs.declared.cause.Cause.TheVariants.{FetchOutside}
 use Rattle.clocking.specs.Stages.{execute, turned, checked, execute_stage, x_result, early, from_x, or_else}
 use Rattle.clocking.specs.declared.stage.ExecuteOut.{ExecuteOut}
@@ -18,11 +18,11 @@ use Rattle.clocking.proofs.Data.{left, Back}
 use Rattle.clocking.proofs.Forward.{Known, layer, known_layer, Runs, AtX, at_x, runs, executes, ends}
 use Rattle.clocking.proofs.Partial.{decoded_at, executed_at, after_at}
 
-known_guessed_by : (f : Register → Operand) (t : State) (b : Bool) → Known f (Ok t) → Known f (cond b (Ok t) (Err FetchOutside))
+known_guessed_by : (f : Register → Option ℕ) (t : State) (b : Bool) → Known f (Ok t) → Known f (cond b (Ok t) (Err FetchOutside))
 known_guessed_by f t true k = k
 known_guessed_by f t false k = tt
 
-known_x : (s : State) (e : Executed) (g : ℕ) (r : Reach) → Runs s (Ok e) r → (f : Register → Operand) → Known f (Ok s)
+known_x : (s : State) (e : Executed) (g : ℕ) (r : Reach) → Runs s (Ok e) r → (f : Register → Option ℕ) → Known f (Ok s)
     → Known (layer e.rd (early e.access e.result) f) (then r (guessed g))
 known_x s e g (Err c) w f k = tt
 known_x s e g (Ok t) w f k =
@@ -37,7 +37,7 @@ turns_off : (s : State) (e : Executed) (r : Reach) → Runs s (Ok e) r → Leads
 turns_off s e (Err c) w = tt
 turns_off s e (Ok t) w = sym w.address
 
-known_broken : (f : Register → Operand) (c : Cause) (r : Reach) → Known f (then r (λ s. Err c))
+known_broken : (f : Register → Option ℕ) (c : Cause) (r : Reach) → Known f (then r (λ s. Err c))
 known_broken f c (Err z) = tt
 known_broken f c (Ok s) = tt
 
@@ -47,7 +47,7 @@ Turned None q = Broken q
 Turned (Some n) q = Leads n q
 
 -- what D reads, where it may move on
-abbrev pub Sourced : Flow → (Register → Operand) → Reach → Type 0
+abbrev pub Sourced : Flow → (Register → Option ℕ) → Reach → Type 0
 Sourced Moves f r = Known f r
 Sourced Stays f r = Unit {0}
 Sourced RollsBack f r = Unit {0}
@@ -63,7 +63,7 @@ module _ (world : World) where
   pub record ExecuteKept (flow : Flow) (r : Reach) (old : Latch Executed) (x : Latch Decoded) (o : ExecuteOut) : Type 0 where
     pub m : HoldsM world r o.m
     pub onward : Onward o.flow o.redirect (behindM world r old) x (behindM world r o.m)
-    pub source : (f : Register → Operand) → Known f (behindM world r old) → Sourced o.flow (λ i. or_else (from_x (x_result flow o.m) i) (f i)) (behindX world (behindM world r old) x)
+    pub source : (f : Register → Option ℕ) → Known f (behindM world r old) → Sourced o.flow (λ i. or_else (from_x (x_result flow o.m) i) (f i)) (behindX world (behindM world r old) x)
 
   executed_so : (s : State) (d : Decoded) → Ok d ≡ decoded_at world s d.guess → execute d ≡ executed_at world s
   executed_so s d e = subst (λ (z : Result Decoded Cause). then z execute ≡ executed_at world s) (sym e) (executes world s d.guess)
@@ -72,7 +72,7 @@ module _ (world : World) where
   unfolding executed_at
   faulting_so s c e = rw (← e)
 
-  known_ended : (f : Register → Operand) (c : Cause) (g : ℕ) (r : Reach) → Err c ≡ r → Known f (then r (guessed g))
+  known_ended : (f : Register → Option ℕ) (c : Cause) (g : ℕ) (r : Reach) → Err c ≡ r → Known f (then r (guessed g))
   known_ended f c g r e = subst (λ (z : Reach). Known f (then z (guessed g))) e tt
 
   ended_on : (g : ℕ) (c : Cause) (r : Reach) → Err c ≡ r → ◌≡◌ {A = Reach} (Err c) (then r (guessed g))
@@ -104,18 +104,18 @@ module _ (world : World) where
   checked_broken c d (Err z) = record { m = tt; onward = refl; source = λ f k. tt }
   checked_broken c d (Ok e) = turned_broken c d e (eqb e.next d.guess)
 
-  faulting_held : (r : Reach) (a : ℕ) (c : Cause) → HoldsX world r (Faulting a c) → HoldsM world r (Faulting a c)
-  faulting_held (Err z) a c h = tt
-  faulting_held (Ok s) a c h = (h.0, faulting_so s c h.1)
+  faulting_held : (r : Reach) (stop : Stop) → HoldsX world r (Faulting stop) → HoldsM world r (Faulting stop)
+  faulting_held (Err z) stop h = tt
+  faulting_held (Ok s) stop h = (h.0, faulting_so s stop.cause h.1)
 
   pub execute_kept : (flow : Flow) (r : Reach) (m : Latch Executed) (x : Latch Decoded) → Back flow (behindM world r (left flow m)) → HoldsM world r (left flow m)
       → HoldsX world (behindM world r (left flow m)) x → ExecuteKept flow r (left flow m) x (execute_stage m x flow)
   execute_kept RollsBack r m x hb hm hx = record { m = tt; onward = hb; source = λ f k. tt }
   execute_kept Stays r m Empty hb hm hx = record { m = hm; onward = refl; source = λ f k. k }
-  execute_kept Stays r m (Faulting a c) hb hm hx = record { m = hm; onward = refl; source = λ f k. tt }
+  execute_kept Stays r m (Faulting stop) hb hm hx = record { m = hm; onward = refl; source = λ f k. tt }
   execute_kept Stays r m (Full d) hb hm hx = record { m = hm; onward = refl; source = λ f k. tt }
   execute_kept Moves r m Empty hb hm hx = record { m = tt; onward = refl; source = λ f k. k }
-  execute_kept Moves r m (Faulting a c) hb hm hx = record { m = faulting_held r a c hx; onward = refl; source = λ f k. known_broken _ c r }
+  execute_kept Moves r m (Faulting stop) hb hm hx = record { m = faulting_held r stop hx; onward = refl; source = λ f k. known_broken _ stop.cause r }
   execute_kept Moves (Err z) m (Full d) hb hm hx = checked_broken z d (execute d)
   execute_kept Moves (Ok s) m (Full d) hb hm hx =
       let e = executed_so s d hx in

@@ -1,6 +1,7 @@
 -- The fetch stage keeps the chain. Assumes nothing.
-use Rattle.std.proofs.Common.{◌≡◌, ℕ, ◌%◌, Bool, true, false, cond, eqb, ltb, Some, None, Ok, Err, Option, sym, refl, ap, ◌∙◌, eqb-true}
+use Rattle.std.proofs.Common.{◌≡◌, ℕ, ◌%◌, Bool, true, false, cond, eqb, ltb, Some, None, Ok, Err, Option, Result, sym, refl, ap, ◌∙◌, eqb-true}
 use Rattle.base.specs.Bytes.{within, word}
+use Rattle.base.specs.declared.bus.Request.{Request}
 use Rattle.base.specs.declared.bus.Request.TheVariants.{Read}
 use Rattle.memory.specs.Meaning.{Reply}
 use Rattle.memory.specs.declared.Answer.TheVariants.{Word, Done as Did}
@@ -12,10 +13,10 @@ use Rattle.clocking.specs.declared.stage.Flow.{Flow}
 use Rattle.clocking.specs.declared.stage.Flow.TheVariants.{Moves, Stays, RollsBack}
 use Rattle.std.proofs.lemmas.Bool.{and_parts}
 use Rattle.words.specs.Issues.{issued}
+use Rattle.rv32i.specs.declared.cause.Cause.{Cause}
 use Rattle.rv32i.specs.declared.cause.Cause.TheVariants.{JumpMisaligned, FetchOutside}
 use Rattle.sequential.specs.Sequential.{fetch}
-use Rattle.clocking.specs.Stages.{fetching, fetch_request, redirected, fetches_on, fetch_stage}
-use Rattle.clocking.specs.declared.stage.Fetching.TheVariants.{Fault, Ask}
+use Rattle.clocking.specs.Stages.{sent, fetching, redirected, fetches_on, fetch_stage}
 use Rattle.clocking.specs.declared.stage.FetchOut.{FetchOut}
 use Rattle.clocking.proofs.Chain.{Reach, HoldsD, behindD, Leads, guessed}
 use Rattle.clocking.proofs.Decode.{Rests}
@@ -35,6 +36,10 @@ turned_leads : (u : Option ℕ) (f : ℕ) (q : Reach) → Turned u q → Leads (
 turned_leads None f (Err c) h = tt
 turned_leads None f (Ok s) h = absurd h
 turned_leads (Some n) f q h = h
+
+-- what is asked for f, by whether a word may stand there and whether it is within the memory
+abbrev pub asked_if : ℕ → Bool → Bool → Result (Option Request) Cause
+asked_if f b d = cond b (cond d (Ok (Some (Read f))) (Err FetchOutside)) (Err JumpMisaligned)
 
 -- what arrives is the word that was read, whatever the guess
 abbrev pub Arrives : ℕ → Option Reply → Option Fetched → Type 0
@@ -74,14 +79,14 @@ module _ (world : World) where
       λ i. record { address = (a.0 ∙ l) i; word = (a.1 ∙ v) i; issued = (a.2 ∙ ap issued v) i; guess = x.guess } in
       ap (λ (y : Fetched). Ok y) same ∙ inside s x.guess (rw l at h.0)
 
-  by_ask : (q : Reach) (f : ℕ) (t : Option Reply) (x : Option Fetched) (n : ℕ → ℕ) → Bytes world.text_size (Some (Read f)) t world.text n → Arrives f t x → Leads f q → FetchKept q (fetches_on f Ask x)
+  by_ask : (q : Reach) (f : ℕ) (t : Option Reply) (x : Option Fetched) (n : ℕ → ℕ) → Bytes world.text_size (Some (Read f)) t world.text n → Arrives f t x → Leads f q → FetchKept q (fetches_on f (Ok (Some (Read f))) x)
   by_ask q f t None n h a l = record { d = tt; f = l }
   by_ask (Err c) f t (Some x) n h a l = record { d = tt; f = tt }
   by_ask (Ok s) f t (Some x) n h a l = record { d = arrives_at s f x t n h a l; f = guess_leads x.guess (after_at world s) }
 
   by_size : (q : Reach) (f : ℕ) (t : Option Reply) (x : Option Fetched) (n : ℕ → ℕ) (b d : Bool) → eqb (f % 4) 0 ≡ b → ltb f world.text_size ≡ d
-      → Bytes world.text_size (fetch_request f (cond b (cond d Ask (Fault FetchOutside)) (Fault JumpMisaligned))) t world.text n → Arrives f t x → Leads f q
-      → FetchKept q (fetches_on f (cond b (cond d Ask (Fault FetchOutside)) (Fault JumpMisaligned)) x)
+      → Bytes world.text_size (sent (asked_if f b d)) t world.text n → Arrives f t x → Leads f q
+      → FetchKept q (fetches_on f (asked_if f b d) x)
   by_size q f t x n true true e i h a l = by_ask q f t x n h a l
   by_size (Err c) f t x n true false e i h a l = record { d = tt; f = tt }
   by_size (Ok s) f t x n true false e i h a l = record { d = (l, outside s (rw l at e) (rw l at i)); f = tt }
@@ -89,7 +94,7 @@ module _ (world : World) where
   by_size (Ok s) f t x n false d e i h a l = record { d = (l, misaligned s (rw l at e)); f = tt }
 
   pub fetch_kept : (flow : Flow) (f : ℕ) (d : Latch Fetched) (t : Option Reply) (x : Option Fetched) (u : Option ℕ) (n : ℕ → ℕ) (r q : Reach)
-      → Bytes world.text_size (fetch_request f (fetching world.text_size f flow)) t world.text n → Arrives f t x → HoldsD world r d → Leads f (behindD world r d) → Rests world flow u r d q
+      → Bytes world.text_size (sent (fetching world.text_size f flow)) t world.text n → Arrives f t x → HoldsD world r d → Leads f (behindD world r d) → Rests world flow u r d q
       → FetchKept q (fetch_stage f d flow (fetching world.text_size f flow) x u)
   fetch_kept Moves f d t x u n r q h a hd hf o = by_size q f t x n (eqb (f % 4) 0) (ltb f world.text_size) refl refl h a (rw o hf)
   fetch_kept Stays f d t x u n r q h a hd hf o = rw o (record { d = hd; f = hf })

@@ -19,8 +19,6 @@ use Rattle.clocking.specs.Stages.{complete, ran, execute, gives, early, or_else,
 use Rattle.clocking.specs.declared.latch.Decoded.{Decoded}
 use Rattle.clocking.specs.declared.latch.Executed.{Executed}
 use Rattle.clocking.specs.declared.latch.Completed.{Completed}
-use Rattle.clocking.specs.declared.stage.Operand.{Operand}
-use Rattle.clocking.specs.declared.stage.Operand.TheVariants.{Value}
 use Rattle.clocking.proofs.Chain.{Reach}
 use Rattle.clocking.proofs.Partial.{operated, Done, settled_by, settle, moved, decoded_at, executed_at, done_at, completed_at, after_at}
 
@@ -38,41 +36,41 @@ written_sized g None w h = h
 written_sized g (Some r) w h = length-set g.values r.number w ∙ h
 
 -- what the latches before a reader say of each register is right for the state reached, where they say a value
-abbrev pub Known : (Register → Operand) → Reach → Type 0
+abbrev pub Known : (Register → Option ℕ) → Reach → Type 0
 Known f (Err c) = Unit {0}
-Known f (Ok s) = Sized s.registers × ((r : Register) (v : ℕ) → f r ≡ Value v → v ≡ value_of s.registers r)
+Known f (Ok s) = Sized s.registers × ((r : Register) (v : ℕ) → f r ≡ Some v → v ≡ value_of s.registers r)
 
 -- a latch that writes rd before those that f has
-abbrev pub layer : Option Register → Operand → (Register → Operand) → Register → Operand
+abbrev pub layer : Option Register → Option ℕ → (Register → Option ℕ) → Register → Option ℕ
 layer rd o f r = or_else (cond (gives rd r) (Some o) None) (f r)
 
-layer_by : (b : Bool) (o q : Operand) (w x v : ℕ) → ((u : ℕ) → o ≡ Value u → u ≡ w) → (q ≡ Value v → v ≡ x) → or_else (cond b (Some o) None) q ≡ Value v → v ≡ cond b w x
+layer_by : (b : Bool) (o q : Option ℕ) (w x v : ℕ) → ((u : ℕ) → o ≡ Some u → u ≡ w) → (q ≡ Some v → v ≡ x) → or_else (cond b (Some o) None) q ≡ Some v → v ≡ cond b w x
 layer_by true o q w x v h k e = h v e
 layer_by false o q w x v h k e = k e
 
-layer_read : (rd : Option Register) (o : Operand) (f : Register → Operand) (g : Registers) (w : ℕ) (r : Register) (v : ℕ) → Sized g → ((u : ℕ) → o ≡ Value u → u ≡ w)
-    → (f r ≡ Value v → v ≡ value_of g r) → layer rd o f r ≡ Value v → v ≡ value_of (written g rd w) r
+layer_read : (rd : Option Register) (o : Option ℕ) (f : Register → Option ℕ) (g : Registers) (w : ℕ) (r : Register) (v : ℕ) → Sized g → ((u : ℕ) → o ≡ Some u → u ≡ w)
+    → (f r ≡ Some v → v ≡ value_of g r) → layer rd o f r ≡ Some v → v ≡ value_of (written g rd w) r
 layer_read None o f g w r v z h k e = k e
 layer_read (Some d) o f g w r v z h k e =
     let small = d.ok in
     layer_by (eqb d.number r.number) o (f r) w (value_of g r) v h k e
     ∙ sym (read_by g.values d.number r.number w (omega arith) (eqb d.number r.number) refl)
 
-pub known_layer : (f : Register → Operand) (s t : State) (rd : Option Register) (o : Operand) (w : ℕ) → t.registers ≡ written s.registers rd w
-    → ((u : ℕ) → o ≡ Value u → u ≡ w) → Known f (Ok s) → Known (layer rd o f) (Ok t)
+pub known_layer : (f : Register → Option ℕ) (s t : State) (rd : Option Register) (o : Option ℕ) (w : ℕ) → t.registers ≡ written s.registers rd w
+    → ((u : ℕ) → o ≡ Some u → u ≡ w) → Known f (Ok s) → Known (layer rd o f) (Ok t)
 known_layer f s t rd o w e h k =
     (rw e (written_sized s.registers rd w k.0), λ r v q. rw e (layer_read rd o f s.registers w r v k.0 h (k.1 r v) q))
 
 -- the same of what an instruction reads, of which x0 is no part
-abbrev pub KnownRead : (Register → Operand) → Reach → Type 0
+abbrev pub KnownRead : (Register → Option ℕ) → Reach → Type 0
 KnownRead f (Err c) = Unit {0}
-KnownRead f (Ok s) = (o : Option Register) (v : ℕ) → source f o ≡ Value v → v ≡ operand s.registers o
+KnownRead f (Ok s) = (o : Option Register) (v : ℕ) → source f o ≡ Some v → v ≡ operand s.registers o
 
-known_source : (f : Register → Operand) (s : State) → Known f (Ok s) → (o : Option Register) (v : ℕ) → source f o ≡ Value v → v ≡ operand s.registers o
+known_source : (f : Register → Option ℕ) (s : State) → Known f (Ok s) → (o : Option Register) (v : ℕ) → source f o ≡ Some v → v ≡ operand s.registers o
 known_source f s k None v e = cc
 known_source f s k (Some r) v e = k.1 r v e
 
-pub known_read : (f : Register → Operand) (r : Reach) → Known f r → KnownRead f r
+pub known_read : (f : Register → Option ℕ) (r : Reach) → Known f r → KnownRead f r
 known_read f (Err c) k = tt
 known_read f (Ok s) k = known_source f s k
 
@@ -89,7 +87,7 @@ Pairs s (Ok f) (Ok t) = t.registers ≡ written s.registers f.rd f.value
 pub record Follows (s : State) (e : Executed) (t : State) : Type 0 where
   pub value : ℕ
   pub registers : t.registers ≡ written s.registers e.rd value
-  pub plain : (v : ℕ) → early e.access e.result ≡ Value v → v ≡ value
+  pub plain : (v : ℕ) → early e.access e.result ≡ Some v → v ≡ value
   pub address : t.address ≡ e.next
 
 abbrev pub Runs : State → Result Executed Cause → Reach → Type 0
@@ -105,9 +103,9 @@ pairs_done s (Ok d) = refl
 -- only a load is answered a word
 abbrev Plain : Option Access → ℕ → Result (Option Request) Cause → Type 0
 Plain how x (Err c) = Unit {0}
-Plain how x (Ok None) = (v : ℕ) → early how x ≡ Value v → v ≡ x
-Plain how x (Ok (Some (Read a))) = (v w : ℕ) → early how x ≡ Value v → v ≡ w
-Plain how x (Ok (Some (Write a w l))) = (v : ℕ) → early how x ≡ Value v → v ≡ x
+Plain how x (Ok None) = (v : ℕ) → early how x ≡ Some v → v ≡ x
+Plain how x (Ok (Some (Read a))) = (v w : ℕ) → early how x ≡ Some v → v ≡ w
+Plain how x (Ok (Some (Write a w l))) = (v : ℕ) → early how x ≡ Some v → v ≡ x
 
 plain_by : (how : Option Access) (x : ℕ) (q : Request) (misaligned outside : Cause) (b d : Bool) → Plain how x (Ok (Some q)) → Plain how x (cond b (cond d (Ok (Some q)) (Err outside)) (Err misaligned))
 plain_by how x q misaligned outside true true h = h

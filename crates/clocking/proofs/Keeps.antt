@@ -11,12 +11,10 @@ use Rattle.clocking.specs.declared.latch.Latch.{Latch}
 use Rattle.clocking.specs.declared.latch.Latch.TheVariants.{Empty, Faulting, Full}
 use Rattle.clocking.specs.declared.stage.Flow.{Flow}
 use Rattle.clocking.specs.declared.stage.Flow.TheVariants.{Moves, Stays, RollsBack}
-use Rattle.clocking.specs.declared.stage.Operand.{Operand}
-use Rattle.clocking.specs.declared.stage.Operand.TheVariants.{Value}
 use Rattle.rv32i.specs.Registers.{written}
 use Rattle.rv32i.specs.declared.registers.Registers.{Registers}
 use Rattle.clocking.specs.Clock.{written_back, completes, executes, reads, decodes, plans, fetches, latches_after}
-use Rattle.clocking.specs.Stages.{data_request, sent, gives, from_m, from_w, or_else, value_of, fetch_request}
+use Rattle.clocking.specs.Stages.{data_request, sent, gives, from_m, from_w, or_else, value_of}
 use Rattle.clocking.specs.declared.latch.Latches.{Latches}
 use Rattle.clocking.proofs.Chain.{Flows, Reach, HoldsM, HoldsX, HoldsD, behindW, behindM, behindX, behindD, Leads, Chain}
 use Rattle.clocking.proofs.Data.{Back, left, DataKept, data_kept}
@@ -28,7 +26,7 @@ use Rattle.clocking.proofs.Partial.{completed_at, after_at}
 use Rattle.clocking.proofs.Served.{Bytes}
 
 -- the register file that W was written to, read with W before it
-retired_by : (b : Bool) (w x v : ℕ) → x ≡ cond b w x → or_else (cond b (Some (Value w)) None) (Value x) ≡ Value v → v ≡ x
+retired_by : (b : Bool) (w x v : ℕ) → x ≡ cond b w x → or_else (cond b (Some (Some w)) None) (Some x) ≡ Some v → v ≡ x
 retired_by true w x v h e = cc
 retired_by false w x v h e = cc
 
@@ -37,14 +35,14 @@ again true x w y h = h
 again false x w y h = refl
 
 retired_read : (g : Registers) (rd : Option Register) (w : ℕ) → Sized g → (r : Register) (v : ℕ)
-    → or_else (cond (gives rd r) (Some (Value w)) None) (Value (value_of (written g rd w) r)) ≡ Value v → v ≡ value_of (written g rd w) r
+    → or_else (cond (gives rd r) (Some (Some w)) None) (Some (value_of (written g rd w) r)) ≡ Some v → v ≡ value_of (written g rd w) r
 retired_read g None w z r v e = cc
 retired_read g (Some d) w z r v e =
     let small = d.ok in
     retired_by (eqb d.number r.number) w (value_of (written g (Some d) w) r) v
     (again (eqb d.number r.number) _ w (value_of g r) (read_by g.values d.number r.number w (omega arith) (eqb d.number r.number) refl)) e
 
-sourced_read : (flow : Flow) (f : Register → Operand) (r : Reach) → Sourced flow f r → SourcedRead flow f r
+sourced_read : (flow : Flow) (f : Register → Option ℕ) (r : Reach) → Sourced flow f r → SourcedRead flow f r
 sourced_read Moves f r k = known_read f r k
 sourced_read Stays f r k = tt
 sourced_read RollsBack f r k = tt
@@ -53,14 +51,14 @@ module _ (world : World) where
   -- what the sequential machine does where W retires
   abbrev pub Retires : State → Latch Completed → State → Type 0
   Retires s Empty t = t ≡ s
-  Retires s (Faulting a c) t = ⊥
+  Retires s (Faulting stop) t = ⊥
   Retires s (Full c) t = (completed_at world s ≡ Ok c) × (after_at world s ≡ Ok t)
 
   -- the chain once W has been written back
   record Rest (t : State) (bytes : ℕ → ℕ) (g : Registers) (k : Latches) : Type 0 where
     sized : Sized g
     registers : g ≡ t.registers
-    base : Known (λ r. or_else (from_w k.w r) (Value (value_of g r))) (Ok t)
+    base : Known (λ r. or_else (from_w k.w r) (Some (value_of g r))) (Ok t)
     memory : bytes ≡ t.bytes
     m : HoldsM world (Ok t) k.m
     x : HoldsX world (behindM world (Ok t) k.m) k.x
@@ -109,12 +107,12 @@ module _ (world : World) where
         f = k.f;
       },
     )
-    retire (Faulting a c) k h = absurd h
+    retire (Faulting stop) k h = absurd h
     retire (Full c) k h = gone_full c k (after_at world s) refl (rw k.w (pairs world s))
 
   module _ (t : State) (bytes n text : ℕ → ℕ) (g : Registers) (k : Latches) (reply answer : Option Reply) (arrival : Option Fetched) (c : Rest t bytes g k)
       (served : Bytes world.data_size (sent (data_request world.data_size k.m)) reply bytes n)
-      (right : Bytes world.text_size (fetch_request k.f (plans world.data_size world.text_size g k reply)) answer world.text text)
+      (right : Bytes world.text_size (sent (plans world.data_size world.text_size g k reply)) answer world.text text)
       (arrives : Arrives k.f answer arrival) where
     abbrev size : ℕ
     size = world.data_size
@@ -147,7 +145,7 @@ module _ (world : World) where
     forwards : Sourced (executes size k reply).flow (reads size g k reply) (behindX world two k.x)
     forwards =
         from_execute.source _
-        (subst (λ (z : Reach). Known (λ r. or_else (from_m k.m (completes size k reply).w r) (or_else (from_w k.w r) (Value (value_of g r)))) z) (sym from_data.same)
+        (subst (λ (z : Reach). Known (λ r. or_else (from_m k.m (completes size k reply).w r) (or_else (from_w k.w r) (Some (value_of g r)))) z) (sym from_data.same)
         (from_data.source _ c.base))
 
     from_decode : DecodeKept world (behindM world one (executes size k reply).m) (behindX world two k.x) k.d (executes size k reply).redirect (decodes size g k reply)
@@ -173,7 +171,7 @@ module _ (world : World) where
 
   pub clock_keeps : (s : State) (bytes n text : ℕ → ℕ) (g : Registers) (k : Latches) (reply answer : Option Reply) (arrival : Option Fetched) → Chain world s bytes g k → Flows k.w
       → Bytes world.data_size (sent (data_request world.data_size k.m)) reply bytes n
-      → Bytes world.text_size (fetch_request k.f (plans world.data_size world.text_size (written_back g k.w) k reply)) answer world.text text
+      → Bytes world.text_size (sent (plans world.data_size world.text_size (written_back g k.w) k reply)) answer world.text text
       → Arrives k.f answer arrival
       → (t : State) × Retires s k.w t × Chain world t n (written_back g k.w) (latches_after world.data_size world.text_size (written_back g k.w) k reply arrival)
   clock_keeps s bytes n text g k reply answer arrival c w served right a =

@@ -64,7 +64,7 @@ StopsSo world s (Some stop) = (stop.address ≡ s.address) × (step world s ≡ 
 -- the data bytes are those of s, once an instruction that waits in W without a cause has been done too
 abbrev pub BytesSo : World → State → Latch Completed → (ℕ → ℕ) → Type 0
 BytesSo world s Empty bytes = bytes ≡ s.bytes
-BytesSo world s (Faulting a c) bytes = bytes ≡ s.bytes
+BytesSo world s (Faulting stop) bytes = bytes ≡ s.bytes
 BytesSo world s (Full c) bytes = (p : Step) × (step world s ≡ Ok p) × (bytes ≡ p.after.bytes)
 
 abbrev pub stopped_count : Option Stop → ℕ

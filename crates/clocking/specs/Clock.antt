@@ -1,9 +1,11 @@
 -- One clock. Assumes nothing.
-use Rattle.std.specs.Prelude.{◌≡◌, ℕ, true, false, ◌&&◌, is_some, Some, None, Option}
+use Rattle.std.specs.Prelude.{◌≡◌, ℕ, true, false, ◌&&◌, is_some, Some, None, Option, Result}
 use Rattle.base.specs.declared.branch.Outcome.{Outcome}
+use Rattle.base.specs.declared.bus.Request.{Request}
 use Rattle.memory.specs.Meaning.{Meaning}
 use Rattle.memory.specs.Meaning.{Reply}
 use Rattle.rv32i.specs.Registers.{written}
+use Rattle.rv32i.specs.declared.cause.Cause.{Cause}
 use Rattle.rv32i.specs.declared.register.Register.{Register}
 use Rattle.rv32i.specs.declared.registers.Registers.{Registers}
 use Rattle.sequential.specs.Sequential.{retired}
@@ -11,7 +13,7 @@ use Rattle.sequential.specs.declared.record.Retirement.{Retirement}
 use Rattle.sequential.specs.declared.record.Stop.{Stop}
 use Rattle.clocking.specs.Counting.{has_fetched, dropped, Counted, stays, moves, rolls_back, is_wait}
 use Rattle.clocking.specs.Ports.{Table, Asked, Taught, arrival}
-use Rattle.clocking.specs.Stages.{data_request, sent, data_stage, execute_stage, x_result, values_in_flight, decode_stage, fetching, fetch_request, fetch_stage}
+use Rattle.clocking.specs.Stages.{data_request, sent, data_stage, execute_stage, x_result, values_in_flight, decode_stage, fetching, fetch_stage}
 use Rattle.clocking.specs.declared.state.Core.{Core}
 use Rattle.clocking.specs.declared.state.ClockRecord.{ClockRecord}
 use Rattle.clocking.specs.declared.state.Event.{Event}
@@ -25,21 +27,19 @@ use Rattle.clocking.specs.declared.stage.DataOut.{DataOut}
 use Rattle.clocking.specs.declared.stage.ExecuteOut.{ExecuteOut}
 use Rattle.clocking.specs.declared.stage.DecodeOut.{DecodeOut}
 use Rattle.clocking.specs.declared.stage.FetchOut.{FetchOut}
-use Rattle.clocking.specs.declared.stage.Fetching.{Fetching}
-use Rattle.clocking.specs.declared.stage.Operand.{Operand}
 
 -- ---- write-back
 
 -- W stops the machine where it is faulting
 abbrev pub stop_of : Latch Completed → Option Stop
 stop_of Empty = None
-stop_of (Faulting a c) = Some (record { address = a; cause = c })
+stop_of (Faulting stop) = Some stop
 stop_of (Full c) = None
 
 -- W retires where it is full and not faulting
 abbrev pub retirement_of : Latch Completed → Option Retirement
 retirement_of Empty = None
-retirement_of (Faulting a c) = None
+retirement_of (Faulting stop) = None
 retirement_of (Full c) = Some (record { retired = retired c.address c.word c.rd c.value; outcome = c.outcome })
 
 abbrev pub outcome_of : Option Retirement → Option Outcome
@@ -48,7 +48,7 @@ outcome_of (Some r) = r.outcome
 
 abbrev pub written_back : Registers → Latch Completed → Registers
 written_back g Empty = g
-written_back g (Faulting a c) = g
+written_back g (Faulting stop) = g
 written_back g (Full c) = written g c.rd c.value
 
 -- ---- the stages, one after another; g is the register file once W is written back
@@ -61,14 +61,14 @@ module _ (size : ℕ) where
   executes k reply = execute_stage k.m k.x (completes k reply).flow
 
   -- what a register is, to an instruction in D
-  abbrev pub reads : Registers → Latches → Option Reply → Register → Operand
+  abbrev pub reads : Registers → Latches → Option Reply → Register → Option ℕ
   reads g k reply = values_in_flight (x_result (completes k reply).flow (executes k reply).m) k.m (completes k reply).w k.w g
 
   abbrev pub decodes : Registers → Latches → Option Reply → DecodeOut
   decodes g k reply = decode_stage (reads g k reply) k.x k.d (executes k reply).flow
 
   -- text is the size of the instruction memory
-  abbrev pub plans : ℕ → Registers → Latches → Option Reply → Fetching
+  abbrev pub plans : ℕ → Registers → Latches → Option Reply → Result (Option Request) Cause
   plans text g k reply = fetching text k.f (decodes g k reply).flow
 
   abbrev pub fetches : ℕ → Registers → Latches → Option Reply → Option Fetched → FetchOut
@@ -87,7 +87,7 @@ module _ (size : ℕ) where
 
 abbrev pub address_of : {T : Type 0} → (T → ℕ) → Latch T → Option ℕ
 address_of f Empty = None
-address_of f (Faulting a c) = Some a
+address_of f (Faulting stop) = Some stop.address
 address_of f (Full x) = Some (f x)
 
 abbrev pub clock_record : ℕ → Latches → Notes → ClockRecord
@@ -124,7 +124,7 @@ module _ {P I D : Type 0} (table : Table P) (instructions : Meaning I) (words : 
     pub taught : Taught table m.predictor (outcome_of (retirement_of m.latches.w)) n.predictor
     pub data_asked : Asked words m.«data» (sent (data_request (words.view.size m.«data») m.latches.m)) reply n.«data»
     pub registers_so : n.registers ≡ written_back m.registers m.latches.w
-    pub text_asked : Asked instructions m.instructions (fetch_request m.latches.f (plans (words.view.size m.«data») (instructions.view.size m.instructions) n.registers m.latches reply)) answer n.instructions
+    pub text_asked : Asked instructions m.instructions (sent (plans (words.view.size m.«data») (instructions.view.size m.instructions) n.registers m.latches reply)) answer n.instructions
     pub latches_so : n.latches ≡ latches_after (words.view.size m.«data») (instructions.view.size m.instructions) n.registers m.latches reply (arrival table n.predictor m.latches.f answer)
     pub runs_on : n.stopped ≡ None
     pub counted : Counted m.counts

@@ -1,8 +1,9 @@
 -- What a clock counts, and what it notes. Assumes nothing.
-use Rattle.std.specs.Prelude.{◌≡◌, ℕ, ◌+◌, ◌%◌, ◌^◌, Bool, true, false, Some, None, Option, Ok, Err}
+use Rattle.std.specs.Prelude.{◌≡◌, ℕ, ◌+◌, ◌%◌, ◌^◌, Bool, true, false, is_some, Some, None, Ok, Err, Option, Result}
+use Rattle.base.specs.declared.bus.Request.{Request}
 use Rattle.memory.specs.Meaning.{Reply}
-use Rattle.memory.specs.declared.Answer.TheVariants.{Word, Done}
 use Rattle.memory.specs.declared.Unserved.TheVariants.{Wait, Outside}
+use Rattle.rv32i.specs.declared.cause.Cause.{Cause}
 use Rattle.clocking.specs.declared.counts.Counts.{Counts}
 use Rattle.clocking.specs.declared.latch.Fetched.{Fetched}
 use Rattle.clocking.specs.declared.latch.Latch.{Latch}
@@ -10,13 +11,11 @@ use Rattle.clocking.specs.declared.latch.Latch.TheVariants.{Empty, Faulting, Ful
 use Rattle.clocking.specs.declared.latch.Latches.{Latches}
 use Rattle.clocking.specs.declared.stage.Flow.{Flow}
 use Rattle.clocking.specs.declared.stage.Flow.TheVariants.{Moves, Stays, RollsBack}
-use Rattle.clocking.specs.declared.stage.Fetching.{Fetching}
-use Rattle.clocking.specs.declared.stage.Fetching.TheVariants.{Idle, Fault, Ask}
 
 -- how many instructions a latch holds
 abbrev pub occupied : {T : Type 0} → Latch T → ℕ
 occupied Empty = 0
-occupied (Faulting a c) = 1
+occupied (Faulting stop) = 1
 occupied (Full x) = 1
 
 -- how many stand in latches
@@ -24,14 +23,10 @@ abbrev pub in_flight_count : Latches → ℕ
 in_flight_count k = occupied k.d + occupied k.x + occupied k.m + occupied k.w
 
 -- whether an instruction is put into D
-abbrev pub is_there : Option Fetched → Bool
-is_there None = false
-is_there (Some x) = true
-
-abbrev pub has_fetched : Fetching → Option Fetched → Bool
-has_fetched Idle x = false
-has_fetched (Fault c) x = true
-has_fetched Ask x = is_there x
+abbrev pub has_fetched : Result (Option Request) Cause → Option Fetched → Bool
+has_fetched (Err c) x = true
+has_fetched (Ok None) x = false
+has_fetched (Ok (Some q)) x = is_some x
 
 abbrev pub if_rolled : Flow → ℕ → ℕ
 if_rolled Moves n = 0
@@ -70,7 +65,6 @@ rolls_back RollsBack = true
 
 abbrev pub is_wait : Option Reply → Bool
 is_wait None = false
-is_wait (Some (Ok (Word w))) = false
-is_wait (Some (Ok Done)) = false
+is_wait (Some (Ok a)) = false
 is_wait (Some (Err Wait)) = true
 is_wait (Some (Err Outside)) = false

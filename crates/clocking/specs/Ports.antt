@@ -5,7 +5,6 @@ use Rattle.base.specs.declared.bus.Request.{Request}
 use Rattle.memory.specs.Meaning.{Meaning}
 use Rattle.memory.specs.Meaning.{Reply}
 use Rattle.memory.specs.declared.Answer.TheVariants.{Word, Done}
-use Rattle.memory.specs.declared.Unserved.TheVariants.{Wait, Outside}
 use Rattle.rv32i.specs.Effects.{following}
 use Rattle.words.specs.Issues.{issued}
 use Rattle.rv32i.specs.Targets.{target_of}
@@ -47,5 +46,4 @@ abbrev pub arrival : {P : Type 0} → Table P → P → ℕ → Option Reply →
 arrival table p f None = None
 arrival table p f (Some (Ok (Word w))) = Some (record { address = f; word = w; issued = issued w; guess = guess_after table p f (issued w) })
 arrival table p f (Some (Ok Done)) = None
-arrival table p f (Some (Err Wait)) = None
-arrival table p f (Some (Err Outside)) = None
+arrival table p f (Some (Err u)) = None

@@ -25,25 +25,23 @@ use Rattle.clocking.specs.declared.stage.Flow.{Flow}
 use Rattle.clocking.specs.declared.stage.Flow.TheVariants.{Moves, Stays, RollsBack}
 use Rattle.clocking.specs.declared.stage.DataOut.{DataOut}
 use Rattle.clocking.specs.declared.stage.ExecuteOut.{ExecuteOut}
-use Rattle.clocking.specs.declared.stage.Operand.{Operand}
-use Rattle.clocking.specs.declared.stage.Operand.TheVariants.{Value, Hazard}
 use Rattle.clocking.specs.declared.stage.DecodeOut.{DecodeOut}
-use Rattle.clocking.specs.declared.stage.Fetching.{Fetching}
-use Rattle.clocking.specs.declared.stage.Fetching.TheVariants.{Idle, Fault, Ask}
 use Rattle.clocking.specs.declared.stage.FetchOut.{FetchOut}
+
+-- ---- what is asked of a memory
+
+-- a cause asks nothing
+abbrev pub sent : Result (Option Request) Cause → Option Request
+sent (Err c) = None
+sent (Ok q) = q
 
 -- ---- data
 
 -- what M asks of a data memory of that size, or the cause that its address has
 abbrev pub data_request : ℕ → Latch Executed → Result (Option Request) Cause
 data_request size Empty = Ok None
-data_request size (Faulting a c) = Ok None
+data_request size (Faulting stop) = Ok None
 data_request size (Full e) = request size e.access e.result e.b
-
--- a cause asks nothing
-abbrev pub sent : Result (Option Request) Cause → Option Request
-sent (Err c) = None
-sent (Ok q) = q
 
 abbrev pub complete : Executed → ℕ → Completed
 complete e v = record { address = e.address; word = e.word; rd = e.rd; value = v; outcome = e.outcome }
@@ -60,12 +58,12 @@ answered e (Some (Err Wait)) = record { w = Empty; flow = Stays }
 answered e (Some (Err Outside)) = completes_with e e.result
 
 abbrev pub told : Executed → Result (Option Request) Cause → Option Reply → DataOut
-told e (Err c) r = record { w = Faulting e.address c; flow = RollsBack }
+told e (Err c) r = record { w = Faulting (record { address = e.address; cause = c }); flow = RollsBack }
 told e (Ok q) r = answered e r
 
 abbrev pub data_stage : Latch Executed → Result (Option Request) Cause → Option Reply → DataOut
 data_stage Empty q r = record { w = Empty; flow = Moves }
-data_stage (Faulting a c) q r = record { w = Faulting a c; flow = RollsBack }
+data_stage (Faulting stop) q r = record { w = Faulting stop; flow = RollsBack }
 data_stage (Full e) q r = told e q r
 
 -- ---- execute
@@ -91,17 +89,17 @@ turned e true = record { m = Full e; flow = Moves; redirect = None }
 turned e false = record { m = Full e; flow = RollsBack; redirect = Some e.next }
 
 abbrev pub checked : ℕ → ℕ → Result Executed Cause → ExecuteOut
-checked a guess (Err c) = record { m = Faulting a c; flow = Moves; redirect = None }
+checked a guess (Err c) = record { m = Faulting (record { address = a; cause = c }); flow = Moves; redirect = None }
 checked a guess (Ok e) = turned e (e.next == guess)
 
 -- by what the data stage did with M
 abbrev pub execute_stage : Latch Executed → Latch Decoded → Flow → ExecuteOut
 execute_stage m x RollsBack = record { m = Empty; flow = RollsBack; redirect = None }
 execute_stage m Empty Stays = record { m = m; flow = Moves; redirect = None }
-execute_stage m (Faulting a c) Stays = record { m = m; flow = Stays; redirect = None }
+execute_stage m (Faulting stop) Stays = record { m = m; flow = Stays; redirect = None }
 execute_stage m (Full d) Stays = record { m = m; flow = Stays; redirect = None }
 execute_stage m Empty Moves = record { m = Empty; flow = Moves; redirect = None }
-execute_stage m (Faulting a c) Moves = record { m = Faulting a c; flow = Moves; redirect = None }
+execute_stage m (Faulting stop) Moves = record { m = Faulting stop; flow = Moves; redirect = None }
 execute_stage m (Full d) Moves = checked d.address d.guess (execute d)
 
 -- X with this clock's result: what it put into M, if M moved
@@ -118,33 +116,33 @@ gives None r = false
 gives (Some rd) r = rd.number == r.number
 
 -- a load in X has no value yet
-abbrev pub early : Option Access → ℕ → Operand
-early None v = Value v
-early (Some (Load k)) v = Hazard
-early (Some (Store k)) v = Value v
+abbrev pub early : Option Access → ℕ → Option ℕ
+early None v = Some v
+early (Some (Load k)) v = None
+early (Some (Store k)) v = Some v
 
-abbrev pub from_x : Latch Executed → Register → Option Operand
+abbrev pub from_x : Latch Executed → Register → Option (Option ℕ)
 from_x Empty r = None
-from_x (Faulting a c) r = None
+from_x (Faulting stop) r = None
 from_x (Full e) r = cond (gives e.rd r) (Some (early e.access e.result)) None
 
 -- M with this clock's answer: its value, if it went to W
-abbrev pub arrived : Latch Completed → Operand
-arrived Empty = Hazard
-arrived (Faulting a c) = Hazard
-arrived (Full c) = Value c.value
+abbrev pub arrived : Latch Completed → Option ℕ
+arrived Empty = None
+arrived (Faulting stop) = None
+arrived (Full c) = Some c.value
 
-abbrev pub from_m : Latch Executed → Latch Completed → Register → Option Operand
+abbrev pub from_m : Latch Executed → Latch Completed → Register → Option (Option ℕ)
 from_m Empty answer r = None
-from_m (Faulting a c) answer r = None
+from_m (Faulting stop) answer r = None
 from_m (Full e) answer r = cond (gives e.rd r) (Some (arrived answer)) None
 
-abbrev pub from_w : Latch Completed → Register → Option Operand
+abbrev pub from_w : Latch Completed → Register → Option (Option ℕ)
 from_w Empty r = None
-from_w (Faulting a c) r = None
-from_w (Full c) r = cond (gives c.rd r) (Some (Value c.value)) None
+from_w (Faulting stop) r = None
+from_w (Full c) r = cond (gives c.rd r) (Some (Some c.value)) None
 
-abbrev pub or_else : Option Operand → Operand → Operand
+abbrev pub or_else : Option (Option ℕ) → Option ℕ → Option ℕ
 or_else None y = y
 or_else (Some x) y = x
 
@@ -152,55 +150,49 @@ abbrev pub value_of : Registers → Register → ℕ
 value_of g r = slice_index g.values r.number
 
 -- the youngest that writes the register gives it: X, then M, then W, else the register file
-abbrev pub values_in_flight : Latch Executed → Latch Executed → Latch Completed → Latch Completed → Registers → Register → Operand
-values_in_flight x m answer w g r = or_else (from_x x r) (or_else (from_m m answer r) (or_else (from_w w r) (Value (value_of g r))))
+abbrev pub values_in_flight : Latch Executed → Latch Executed → Latch Completed → Latch Completed → Registers → Register → Option ℕ
+values_in_flight x m answer w g r = or_else (from_x x r) (or_else (from_m m answer r) (or_else (from_w w r) (Some (value_of g r))))
 
 -- what there is to read: x0, and what is not read, is 0
-abbrev pub source : (Register → Operand) → Option Register → Operand
-source f None = Value 0
+abbrev pub source : (Register → Option ℕ) → Option Register → Option ℕ
+source f None = Some 0
 source f (Some r) = f r
 
-abbrev pub with_operands : Fetched → Instruction → Operand → Operand → DecodeOut
-with_operands f i (Value a) (Value b) = record {
+abbrev pub with_operands : Fetched → Instruction → Option ℕ → Option ℕ → DecodeOut
+with_operands f i (Some a) (Some b) = record {
   x = Full (record { address = f.address; word = f.word; instruction = i; rd = destination i; a = a; b = b; guess = f.guess });
   flow = Moves;
 }
-with_operands f i (Value a) Hazard = record { x = Empty; flow = Stays }
-with_operands f i Hazard (Value b) = record { x = Empty; flow = Stays }
-with_operands f i Hazard Hazard = record { x = Empty; flow = Stays }
+with_operands f i (Some a) None = record { x = Empty; flow = Stays }
+with_operands f i None b = record { x = Empty; flow = Stays }
 
-abbrev pub decode_word : (Register → Operand) → Fetched → Result Instruction Cause → DecodeOut
-decode_word reads f (Err c) = record { x = Faulting f.address c; flow = Moves }
+abbrev pub decode_word : (Register → Option ℕ) → Fetched → Result Instruction Cause → DecodeOut
+decode_word reads f (Err c) = record { x = Faulting (record { address = f.address; cause = c }); flow = Moves }
 decode_word reads f (Ok i) = with_operands f i (source reads (first_source i)) (source reads (second_source i))
 
-abbrev pub decode_moves : (Register → Operand) → Latch Fetched → DecodeOut
+abbrev pub decode_moves : (Register → Option ℕ) → Latch Fetched → DecodeOut
 decode_moves reads Empty = record { x = Empty; flow = Moves }
-decode_moves reads (Faulting a c) = record { x = Faulting a c; flow = Moves }
+decode_moves reads (Faulting stop) = record { x = Faulting stop; flow = Moves }
 decode_moves reads (Full f) = decode_word reads f f.issued
 
 abbrev pub decode_stays : Latch Decoded → Latch Fetched → DecodeOut
 decode_stays x Empty = record { x = x; flow = Moves }
-decode_stays x (Faulting a c) = record { x = x; flow = Stays }
+decode_stays x (Faulting stop) = record { x = x; flow = Stays }
 decode_stays x (Full f) = record { x = x; flow = Stays }
 
 -- by what the execute stage did with X
-abbrev pub decode_stage : (Register → Operand) → Latch Decoded → Latch Fetched → Flow → DecodeOut
+abbrev pub decode_stage : (Register → Option ℕ) → Latch Decoded → Latch Fetched → Flow → DecodeOut
 decode_stage reads x d RollsBack = record { x = Empty; flow = RollsBack }
 decode_stage reads x d Stays = decode_stays x d
 decode_stage reads x d Moves = decode_moves reads d
 
 -- ---- fetch
 
--- by the size of the instruction memory and what the decode stage did with D
-abbrev pub fetching : ℕ → ℕ → Flow → Fetching
-fetching size f RollsBack = Idle
-fetching size f Stays = Idle
-fetching size f Moves = cond (f % 4 == 0) (cond (nat_lt f size) Ask (Fault FetchOutside)) (Fault JumpMisaligned)
-
-abbrev pub fetch_request : ℕ → Fetching → Option Request
-fetch_request f Idle = None
-fetch_request f (Fault c) = None
-fetch_request f Ask = Some (Read f)
+-- what is asked of an instruction memory of that size for f, or the cause that f has, by what the decode stage did with D
+abbrev pub fetching : ℕ → ℕ → Flow → Result (Option Request) Cause
+fetching size f RollsBack = Ok None
+fetching size f Stays = Ok None
+fetching size f Moves = cond (f % 4 == 0) (cond (nat_lt f size) (Ok (Some (Read f))) (Err FetchOutside)) (Err JumpMisaligned)
 
 abbrev pub redirected : ℕ → Option ℕ → ℕ
 redirected f None = f
@@ -211,12 +203,12 @@ abbrev pub placed : ℕ → Option Fetched → FetchOut
 placed f None = record { f = f; d = Empty }
 placed f (Some x) = record { f = x.guess; d = Full x }
 
-abbrev pub fetches_on : ℕ → Fetching → Option Fetched → FetchOut
-fetches_on f Idle x = record { f = f; d = Empty }
-fetches_on f (Fault c) x = record { f = following f; d = Faulting f c }
-fetches_on f Ask x = placed f x
+abbrev pub fetches_on : ℕ → Result (Option Request) Cause → Option Fetched → FetchOut
+fetches_on f (Err c) x = record { f = following f; d = Faulting (record { address = f; cause = c }) }
+fetches_on f (Ok None) x = record { f = f; d = Empty }
+fetches_on f (Ok (Some q)) x = placed f x
 
-abbrev pub fetch_stage : ℕ → Latch Fetched → Flow → Fetching → Option Fetched → Option ℕ → FetchOut
-fetch_stage f d RollsBack plan x redirect = record { f = redirected f redirect; d = Empty }
-fetch_stage f d Stays plan x redirect = record { f = f; d = d }
-fetch_stage f d Moves plan x redirect = fetches_on f plan x
+abbrev pub fetch_stage : ℕ → Latch Fetched → Flow → Result (Option Request) Cause → Option Fetched → Option ℕ → FetchOut
+fetch_stage f d RollsBack asked x redirect = record { f = redirected f redirect; d = Empty }
+fetch_stage f d Stays asked x redirect = record { f = f; d = d }
+fetch_stage f d Moves asked x redirect = fetches_on f asked x

@@ -4,6 +4,7 @@ use rv32i::cause::Cause;
 use rv32i::effect::Access;
 use rv32i::instruction::Instruction;
 use rv32i::register::Register;
+use sequential::record::Stop;
 
 /// Before decode: a word, the instruction that it issues or why it issues none, and where fetching went on.
 #[derive(Clone, Copy)]
@@ -50,10 +51,11 @@ pub struct Completed {
 }
 
 /// A latch is empty, or holds an instruction that has a cause to stop, or one that has none so far.
+// Three states with names, of which the rule of the clock speaks: an Option of a Result would be no plainer.
 #[derive(Clone, Copy)]
 pub enum Latch<T> {
     Empty,
-    Faulting(u32, Cause),
+    Faulting(Stop),
     Full(T),
 }
 

@@ -1,9 +1,8 @@
 //! What the stages give to one another.
 use crate::latch::{Completed, Decoded, Executed, Fetched, Latch};
-use rv32i::cause::Cause;
 
 /// What a stage did with what stood before it.
-#[derive(Clone, Copy)]
+#[derive(Clone, Copy, PartialEq, Eq, Debug)]
 pub enum Flow {
     Moves,
     Stays,
@@ -25,26 +24,11 @@ pub struct ExecuteOut {
     pub redirect: Option<u32>,
 }
 
-/// An operand, or that it is not there yet.
-#[derive(Clone, Copy)]
-pub enum Operand {
-    Value(u32),
-    Hazard,
-}
-
 /// What the decode stage gives.
 #[derive(Clone, Copy)]
 pub struct DecodeOut {
     pub x: Latch<Decoded>,
     pub flow: Flow,
-}
-
-/// What the fetch stage does: nothing, a fault without asking, or it asks the instruction memory.
-#[derive(Clone, Copy)]
-pub enum Fetching {
-    Idle,
-    Fault(Cause),
-    Ask,
 }
 
 /// What the fetch stage gives.

@@ -2,7 +2,7 @@
 #![tactic(auto)]
 
 ghost use Rattle.std.specs.Prelude.{◌≡◌, ◌<◌, None};
-ghost use Rattle.clocking.specs.Clock.{Moved, Halted, Cycled};
+ghost use Rattle.clocking.specs.Clock.{Moved, Halted};
 ghost use Rattle.clocking.specs.Counting.{Counted};
 ghost use Rattle.clocking.specs.Stages.{decode_stage, values_in_flight, x_result};
 ghost use Rattle.cycle.specs.Cycles.{Cycles};
@@ -21,18 +21,19 @@ use sequential::record::Stop;
 use stages::data::{data_request, data_stage, sent};
 use stages::decode::{InFlight, decode_stage};
 use stages::execute::{execute_stage, x_result};
-use stages::fetch::{fetch_request, fetch_stage, fetching};
+use stages::fetch::{fetch_stage, fetching};
 use stages::write_back::{outcome_of, retirement_of, stop_of, write_back};
 
 /// Counts a clock, and what was fetched, retired and removed in it.
+// That a clock is left is asked here and by the two that count, and stands in no type: counts and a core may have none left.
 fn count(counts: &mut Counts, fetched: bool, retired: bool, gone: u32)
     requires { counts.old.clocks < 4294967295 }
     ensures { Counted counts.old fetched retired gone counts.new }
 {
     *counts = Counts {
         clocks: counts.clocks + 1,
-        fetched: counts.fetched + fetched as u32,
-        retired: counts.retired + retired as u32,
+        fetched: counts.fetched + u32::from(fetched),
+        retired: counts.retired + u32::from(retired),
         dropped: counts.dropped.wrapping_add(gone),
     };
 }
@@ -91,21 +92,21 @@ fn advance<P: Predictor, I: Memory, D: Memory>(core: &mut Core<P, I, D>) -> Even
     let decodes = decode(&core.registers, &core.latches, &completes, &executes);
 
     let f = core.latches.f;
-    let plan = fetching(core.instructions.size(), f, decodes.flow);
-    let answer = ask_or_idle(&mut core.instructions, fetch_request(f, plan));
+    let fetch = fetching(core.instructions.size(), f, decodes.flow);
+    let answer = ask_or_idle(&mut core.instructions, sent(fetch));
     let arrival = arrival(&core.predictor, f, answer);
     let fetches = fetch_stage(
         f,
         &core.latches.d,
         decodes.flow,
-        plan,
+        fetch,
         arrival,
         executes.redirect,
     );
 
     count(
         &mut core.counts,
-        has_fetched(plan, &arrival),
+        has_fetched(fetch, &arrival),
         retirement.is_some(),
         dropped(&core.latches, completes.flow, executes.flow),
     );
@@ -121,17 +122,6 @@ fn advance<P: Predictor, I: Memory, D: Memory>(core: &mut Core<P, I, D>) -> Even
     Event { clock, retirement }
 }
 
-/// One clock of a core that has not stopped and has clocks left: what it does to the core, and what it tells.
-fn cycle<P: Predictor, I: Memory, D: Memory>(core: &mut Core<P, I, D>) -> Event
-    requires { (core.old.stopped ≡ None) × (core.old.counts.clocks < 4294967295) }
-    ensures { Cycled P.Predictor.table I.Memory.means D.Memory.means core.old result core.new }
-{
-    match stop_of(&core.latches.w) {
-        Some(stop) => halt(core, stop),
-        None => advance(core),
-    }
-}
-
 /// One clock: what it does to the core, and what it tells. A core that has stopped or has made all its clocks stays as it
 /// is, and tells nothing.
 pub fn checked_cycle<P: Predictor, I: Memory, D: Memory>(core: &mut Core<P, I, D>) -> Option<Event>
@@ -140,5 +130,8 @@ pub fn checked_cycle<P: Predictor, I: Memory, D: Memory>(core: &mut Core<P, I, D
     if core.stopped.is_some() || core.counts.clocks == u32::MAX {
         return None;
     }
-    Some(cycle(core))
+    Some(match stop_of(&core.latches.w) {
+        Some(stop) => halt(core, stop),
+        None => advance(core),
+    })
 }

@@ -5,7 +5,7 @@ ghost use Rattle.clocking.specs.Ports.{Asked, Taught, guess_after, arrival};
 use base::branch::Outcome;
 use base::bus::Request;
 use clocking::latch::Fetched;
-use memory::{Memory, Reply, ask};
+use memory::{Answer, Memory, Reply, ask};
 use predictor::Predictor;
 use rv32i::cause::Cause;
 use rv32i::instruction::Instruction;
@@ -58,16 +58,14 @@ fn guess<P: Predictor>(predictor: &P, f: u32, issued: Result<Instruction, Cause>
 pub fn arrival<P: Predictor>(predictor: &P, f: u32, answer: Option<Reply>) -> Option<Fetched>
     ensures { result ≡ arrival P.Predictor.table predictor.now f answer }
 {
-    match answer {
-        Some(Reply::Word(word)) => {
-            let issued = issue(word);
-            Some(Fetched {
-                address: f,
-                word,
-                issued,
-                guess: guess(predictor, f, issued),
-            })
-        }
-        None | Some(Reply::Done) | Some(Reply::Wait) | Some(Reply::Outside) => None,
-    }
+    let Some(Ok(Answer::Word(word))) = answer else {
+        return None;
+    };
+    let issued = issue(word);
+    Some(Fetched {
+        address: f,
+        word,
+        issued,
+        guess: guess(predictor, f, issued),
+    })
 }

@@ -2,8 +2,10 @@
 ghost use Rattle.std.specs.Prelude.{◌≡◌, ◌≤◌};
 ghost use Rattle.clocking.specs.Counting.{occupied, in_flight_count, has_fetched, if_rolled, dropped};
 
+use base::bus::Request;
 use clocking::latch::{Fetched, Latch, Latches};
-use clocking::stage::{Fetching, Flow};
+use clocking::stage::Flow;
+use rv32i::cause::Cause;
 
 /// How many instructions a latch holds.
 fn occupied<T: Copy>(latch: &Latch<T>) -> u32
@@ -12,7 +14,7 @@ fn occupied<T: Copy>(latch: &Latch<T>) -> u32
 {
     match *latch {
         Latch::Empty => 0,
-        Latch::Faulting(_, _) | Latch::Full(_) => 1,
+        Latch::Faulting(_) | Latch::Full(_) => 1,
     }
 }
 
@@ -24,16 +26,12 @@ pub fn in_flight(latches: &Latches) -> u32
 }
 
 /// Whether an instruction is put into D.
-pub fn has_fetched(plan: Fetching, arrival: &Option<Fetched>) -> bool
-    ensures { result ≡ has_fetched plan arrival.now }
+pub fn has_fetched(asked: Result<Option<Request>, Cause>, arrival: &Option<Fetched>) -> bool
+    ensures { result ≡ has_fetched asked arrival.now }
 {
-    match plan {
-        Fetching::Idle => false,
-        Fetching::Fault(_) => true,
-        Fetching::Ask => match *arrival {
-            Some(_) => true,
-            None => false,
-        },
+    match asked {
+        Err(_) => true,
+        Ok(request) => request.is_some() && arrival.is_some(),
     }
 }
 

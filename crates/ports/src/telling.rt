@@ -1,61 +1,23 @@
 //! What a clock tells of itself.
-ghost use Rattle.std.specs.Prelude.{◌≡◌, ℕ, false, ◌&&◌};
-ghost use Rattle.clocking.specs.Clock.{address_of, clock_record};
+ghost use Rattle.std.specs.Prelude.{◌≡◌, false, ◌&&◌};
+ghost use Rattle.clocking.specs.Clock.{clock_record};
+ghost use Rattle.ports.specs.Telling.{AddressOf};
 ghost use Rattle.clocking.specs.Counting.{stays, moves, rolls_back, is_wait};
 
-use clocking::latch::{Completed, Decoded, Executed, Fetched, Latch, Latches};
+use clocking::latch::{Latch, Latches};
 use clocking::stage::Flow;
 use clocking::state::{ClockRecord, Notes};
-use memory::Reply;
+use memory::{Reply, Unserved};
 
-/// What stands at an address of the instruction memory.
-trait Located {
-    ghost place: { Self → ℕ };
-
-    fn address(&self) -> u32
-        ensures { result ≡ place self.now };
-}
-
-impl Located for Fetched {
-    ghost place = { λ x. x.address };
-
-    fn address(&self) -> u32 {
-        self.address
-    }
-}
-
-impl Located for Decoded {
-    ghost place = { λ x. x.address };
-
-    fn address(&self) -> u32 {
-        self.address
-    }
-}
-
-impl Located for Executed {
-    ghost place = { λ x. x.address };
-
-    fn address(&self) -> u32 {
-        self.address
-    }
-}
-
-impl Located for Completed {
-    ghost place = { λ x. x.address };
-
-    fn address(&self) -> u32 {
-        self.address
-    }
-}
-
-/// The address of what a latch holds.
-fn address_of<T: Located + Copy>(latch: &Latch<T>) -> Option<u32>
-    ensures { result ≡ address_of T.Located.place latch.now }
+/// The address of what a latch holds; where it is full, `address` gives it.
+fn address_of<T: Copy, F: FnOnce(T) -> u32>(latch: &Latch<T>, address: F) -> Option<u32>
+    requires { F.IsAlwaysCallable address }
+    ensures { AddressOf (F.post address) latch.now result }
 {
     match *latch {
         Latch::Empty => None,
-        Latch::Faulting(address, _) => Some(address),
-        Latch::Full(x) => Some(x.address()),
+        Latch::Faulting(stop) => Some(stop.address),
+        Latch::Full(x) => Some(address(x)),
     }
 }
 
@@ -66,10 +28,10 @@ pub fn clock_record(clock: u32, latches: &Latches, notes: Notes) -> ClockRecord
     ClockRecord {
         clock,
         f: latches.f,
-        d: address_of(&latches.d),
-        x: address_of(&latches.x),
-        m: address_of(&latches.m),
-        w: address_of(&latches.w),
+        d: address_of(&latches.d, |x| x.address),
+        x: address_of(&latches.x, |x| x.address),
+        m: address_of(&latches.m, |x| x.address),
+        w: address_of(&latches.w, |x| x.address),
         notes,
     }
 }
@@ -89,10 +51,10 @@ pub fn notes(data: Flow, execute: Flow, decode: Flow, answer: Option<Reply>) -> 
     ensures { result ≡ record { fetch_wait = is_wait answer; hazard = moves execute && stays decode; data_wait = stays «data»; rollback = rolls_back decode; stop = false } }
 {
     Notes {
-        fetch_wait: matches!(answer, Some(Reply::Wait)),
-        hazard: matches!(execute, Flow::Moves) && matches!(decode, Flow::Stays),
-        data_wait: matches!(data, Flow::Stays),
-        rollback: matches!(decode, Flow::RollsBack),
+        fetch_wait: answer == Some(Err(Unserved::Wait)),
+        hazard: execute == Flow::Moves && decode == Flow::Stays,
+        data_wait: data == Flow::Stays,
+        rollback: decode == Flow::RollsBack,
         stop: false,
     }
 }

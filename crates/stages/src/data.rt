@@ -5,9 +5,10 @@ ghost use Rattle.clocking.specs.Stages.{data_request, sent, complete, completes_
 use base::bus::Request;
 use clocking::latch::{Completed, Executed, Latch};
 use clocking::stage::{DataOut, Flow};
-use memory::Reply;
+use memory::{Answer, Reply, Unserved};
 use rv32i::cause::Cause;
 use rv32i::effect::{loaded, request};
+use sequential::record::Stop;
 
 /// What M asks of a data memory of that size, or the cause that its address has.
 pub fn data_request(size: u32, m: &Latch<Executed>) -> Result<Option<Request>, Cause>
@@ -15,18 +16,15 @@ pub fn data_request(size: u32, m: &Latch<Executed>) -> Result<Option<Request>, C
 {
     match *m {
         Latch::Full(e) => request(size, e.access, e.result, e.b),
-        Latch::Empty | Latch::Faulting(_, _) => Ok(None),
+        Latch::Empty | Latch::Faulting(_) => Ok(None),
     }
 }
 
-/// What the data memory is asked: a cause asks nothing.
+/// What a memory is asked: a cause asks nothing.
 pub fn sent(asked: Result<Option<Request>, Cause>) -> Option<Request>
     ensures { result ≡ sent asked }
 {
-    match asked {
-        Ok(request) => request,
-        Err(_) => None,
-    }
+    asked.unwrap_or(None)
 }
 
 /// M goes to W with that value.
@@ -58,23 +56,28 @@ pub fn data_stage(
             w: Latch::Empty,
             flow: Flow::Moves,
         },
-        Latch::Faulting(address, cause) => DataOut {
-            w: Latch::Faulting(address, cause),
+        Latch::Faulting(stop) => DataOut {
+            w: Latch::Faulting(stop),
             flow: Flow::RollsBack,
         },
-        Latch::Full(e) => match asked {
-            Err(cause) => DataOut {
-                w: Latch::Faulting(e.address, cause),
+        Latch::Full(e) => match (asked, reply) {
+            (Err(cause), _) => DataOut {
+                w: Latch::Faulting(Stop {
+                    address: e.address,
+                    cause,
+                }),
                 flow: Flow::RollsBack,
             },
-            Ok(_) => match reply {
-                Some(Reply::Wait) => DataOut {
-                    w: Latch::Empty,
-                    flow: Flow::Stays,
-                },
-                Some(Reply::Word(word)) => completes_with(e, loaded(e.access, e.result, word)),
-                None | Some(Reply::Done) | Some(Reply::Outside) => completes_with(e, e.result),
+            (Ok(_), Some(Err(Unserved::Wait))) => DataOut {
+                w: Latch::Empty,
+                flow: Flow::Stays,
             },
+            (Ok(_), Some(Ok(Answer::Word(word)))) => {
+                completes_with(e, loaded(e.access, e.result, word))
+            }
+            (Ok(_), None | Some(Ok(Answer::Done) | Err(Unserved::Outside))) => {
+                completes_with(e, e.result)
+            }
         },
     }
 }

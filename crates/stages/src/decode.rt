@@ -3,29 +3,30 @@ ghost use Rattle.std.specs.Prelude.{◌≡◌};
 ghost use Rattle.clocking.specs.Stages.{early, arrived, values_in_flight, source, with_operands, decode_stage};
 
 use clocking::latch::{Completed, Decoded, Executed, Fetched, Latch};
-use clocking::stage::{DecodeOut, Flow, Operand};
+use clocking::stage::{DecodeOut, Flow};
 use rv32i::effect::Access;
 use rv32i::instruction::Instruction;
 use rv32i::register::Register;
 use rv32i::registers::Registers;
+use sequential::record::Stop;
 
 /// What X gives: a load has no value yet.
-fn early(access: Option<Access>, value: u32) -> Operand
+fn early(access: Option<Access>, value: u32) -> Option<u32>
     ensures { result ≡ early access value }
 {
     match access {
-        Some(Access::Load(_)) => Operand::Hazard,
-        Some(Access::Store(_)) | None => Operand::Value(value),
+        Some(Access::Load(_)) => None,
+        Some(Access::Store(_)) | None => Some(value),
     }
 }
 
 /// What M gives: its value, if it went to W.
-fn arrived(answer: &Latch<Completed>) -> Operand
+fn arrived(answer: &Latch<Completed>) -> Option<u32>
     ensures { result ≡ arrived answer.now }
 {
     match *answer {
-        Latch::Full(c) => Operand::Value(c.value),
-        Latch::Empty | Latch::Faulting(_, _) => Operand::Hazard,
+        Latch::Full(c) => Some(c.value),
+        Latch::Empty | Latch::Faulting(_) => None,
     }
 }
 
@@ -42,7 +43,7 @@ pub struct InFlight<'a> {
 
 impl InFlight<'_> {
     /// What a register is. The youngest that writes it gives it: X, then M, then W, else the register file.
-    fn forwarded(self, r: Register) -> Operand
+    fn forwarded(self, r: Register) -> Option<u32>
         ensures { result ≡ values_in_flight self.entry.x.now self.entry.m.now self.entry.answer.now self.entry.w.now self.entry.registers.now r }
     {
         if let Latch::Full(e) = *self.x
@@ -56,46 +57,45 @@ impl InFlight<'_> {
         } else if let Latch::Full(c) = *self.w
             && c.rd == Some(r)
         {
-            Operand::Value(c.value)
+            Some(c.value)
         } else {
-            Operand::Value(self.registers.read(Some(r)))
+            Some(self.registers.read(Some(r)))
         }
     }
 
     /// What there is to read: where no register is read, 0.
-    fn source(self, register: Option<Register>) -> Operand
+    fn source(self, register: Option<Register>) -> Option<u32>
         ensures { result ≡ source (values_in_flight self.entry.x.now self.entry.m.now self.entry.answer.now self.entry.w.now self.entry.registers.now) register }
     {
+        // By map_or the check does not find the proof.
         match register {
             Some(r) => self.forwarded(r),
-            None => Operand::Value(0),
+            None => Some(0),
         }
     }
 }
 
 /// The instruction goes to X with its operands, or stays while one is not there.
-fn with_operands(f: Fetched, instruction: Instruction, a: Operand, b: Operand) -> DecodeOut
+fn with_operands(f: Fetched, instruction: Instruction, a: Option<u32>, b: Option<u32>) -> DecodeOut
     ensures { result ≡ with_operands f instruction a b }
 {
-    if let Operand::Value(a) = a
-        && let Operand::Value(b) = b
-    {
+    let (Some(a), Some(b)) = (a, b) else {
         return DecodeOut {
-            x: Latch::Full(Decoded {
-                address: f.address,
-                word: f.word,
-                instruction,
-                rd: instruction.destination(),
-                a,
-                b,
-                guess: f.guess,
-            }),
-            flow: Flow::Moves,
+            x: Latch::Empty,
+            flow: Flow::Stays,
         };
-    }
+    };
     DecodeOut {
-        x: Latch::Empty,
-        flow: Flow::Stays,
+        x: Latch::Full(Decoded {
+            address: f.address,
+            word: f.word,
+            instruction,
+            rd: instruction.destination(),
+            a,
+            b,
+            guess: f.guess,
+        }),
+        flow: Flow::Moves,
     }
 }
 
@@ -117,7 +117,7 @@ pub fn decode_stage(
             x: *x,
             flow: match *d {
                 Latch::Empty => Flow::Moves,
-                Latch::Faulting(_, _) | Latch::Full(_) => Flow::Stays,
+                Latch::Faulting(_) | Latch::Full(_) => Flow::Stays,
             },
         },
         Flow::Moves => match *d {
@@ -125,13 +125,16 @@ pub fn decode_stage(
                 x: Latch::Empty,
                 flow: Flow::Moves,
             },
-            Latch::Faulting(address, cause) => DecodeOut {
-                x: Latch::Faulting(address, cause),
+            Latch::Faulting(stop) => DecodeOut {
+                x: Latch::Faulting(stop),
                 flow: Flow::Moves,
             },
             Latch::Full(f) => match f.issued {
                 Err(cause) => DecodeOut {
-                    x: Latch::Faulting(f.address, cause),
+                    x: Latch::Faulting(Stop {
+                        address: f.address,
+                        cause,
+                    }),
                     flow: Flow::Moves,
                 },
                 Ok(i) => {

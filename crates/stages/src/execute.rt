@@ -5,24 +5,23 @@ ghost use Rattle.clocking.specs.Stages.{execute, execute_stage, x_result};
 use clocking::latch::{Decoded, Executed, Latch};
 use clocking::stage::{ExecuteOut, Flow};
 use rv32i::cause::Cause;
+use sequential::record::Stop;
 
 /// What the instruction comes to, or why it may not.
 pub fn execute(d: Decoded) -> Result<Executed, Cause>
     ensures { result ≡ execute d }
 {
-    match d.instruction.execute(d.address, d.a, d.b) {
-        Ok(effect) => Ok(Executed {
-            address: d.address,
-            word: d.word,
-            rd: d.rd,
-            access: d.instruction.access(),
-            result: effect.result,
-            b: d.b,
-            next: effect.next,
-            outcome: effect.outcome,
-        }),
-        Err(cause) => Err(cause),
-    }
+    let effect = d.instruction.execute(d.address, d.a, d.b)?;
+    Ok(Executed {
+        address: d.address,
+        word: d.word,
+        rd: d.rd,
+        access: d.instruction.access(),
+        result: effect.result,
+        b: d.b,
+        next: effect.next,
+        outcome: effect.outcome,
+    })
 }
 
 /// X is dropped after a rollback and stays while M stays; else it goes to M, and rolls back what was fetched after it where
@@ -40,7 +39,7 @@ pub fn execute_stage(m: &Latch<Executed>, x: &Latch<Decoded>, flow: Flow) -> Exe
             m: *m,
             flow: match *x {
                 Latch::Empty => Flow::Moves,
-                Latch::Faulting(_, _) | Latch::Full(_) => Flow::Stays,
+                Latch::Faulting(_) | Latch::Full(_) => Flow::Stays,
             },
             redirect: None,
         },
@@ -50,14 +49,17 @@ pub fn execute_stage(m: &Latch<Executed>, x: &Latch<Decoded>, flow: Flow) -> Exe
                 flow: Flow::Moves,
                 redirect: None,
             },
-            Latch::Faulting(address, cause) => ExecuteOut {
-                m: Latch::Faulting(address, cause),
+            Latch::Faulting(stop) => ExecuteOut {
+                m: Latch::Faulting(stop),
                 flow: Flow::Moves,
                 redirect: None,
             },
             Latch::Full(d) => match execute(d) {
                 Err(cause) => ExecuteOut {
-                    m: Latch::Faulting(d.address, cause),
+                    m: Latch::Faulting(Stop {
+                        address: d.address,
+                        cause,
+                    }),
                     flow: Flow::Moves,
                     redirect: None,
                 },

@@ -1,37 +1,28 @@
 //! The fetch stage: the word at F goes to D, and F on to the guess.
 ghost use Rattle.std.specs.Prelude.{◌≡◌};
-ghost use Rattle.clocking.specs.Stages.{fetching, fetch_request, fetch_stage};
+ghost use Rattle.clocking.specs.Stages.{fetching, fetch_stage};
 
 use base::bus::Request;
 use clocking::latch::{Fetched, Latch};
-use clocking::stage::{FetchOut, Fetching, Flow};
+use clocking::stage::{FetchOut, Flow};
 use rv32i::cause::Cause;
+use sequential::record::Stop;
 
-/// What the stage does, by the size of the instruction memory and what became of D.
-pub fn fetching(size: u32, f: u32, flow: Flow) -> Fetching
+/// What is asked of an instruction memory of that size for F, or the cause that F has, by what became of D.
+pub fn fetching(size: u32, f: u32, flow: Flow) -> Result<Option<Request>, Cause>
     ensures { result ≡ fetching size f flow }
 {
     match flow {
-        Flow::Stays | Flow::RollsBack => Fetching::Idle,
+        Flow::Stays | Flow::RollsBack => Ok(None),
         Flow::Moves => {
             if f % 4 != 0 {
-                Fetching::Fault(Cause::JumpMisaligned)
+                Err(Cause::JumpMisaligned)
             } else if f >= size {
-                Fetching::Fault(Cause::FetchOutside)
+                Err(Cause::FetchOutside)
             } else {
-                Fetching::Ask
+                Ok(Some(Request::Read { address: f }))
             }
         }
-    }
-}
-
-/// What the instruction memory is asked.
-pub fn fetch_request(f: u32, plan: Fetching) -> Option<Request>
-    ensures { result ≡ fetch_request f plan }
-{
-    match plan {
-        Fetching::Ask => Some(Request::Read { address: f }),
-        Fetching::Idle | Fetching::Fault(_) => None,
     }
 }
 
@@ -41,11 +32,11 @@ pub fn fetch_stage(
     f: u32,
     d: &Latch<Fetched>,
     flow: Flow,
-    plan: Fetching,
+    asked: Result<Option<Request>, Cause>,
     arrival: Option<Fetched>,
     redirect: Option<u32>,
 ) -> FetchOut
-    ensures { result ≡ fetch_stage f d.now flow plan arrival redirect }
+    ensures { result ≡ fetch_stage f d.now flow asked arrival redirect }
 {
     match flow {
         Flow::RollsBack => FetchOut {
@@ -53,19 +44,16 @@ pub fn fetch_stage(
             d: Latch::Empty,
         },
         Flow::Stays => FetchOut { f, d: *d },
-        Flow::Moves => match plan {
-            Fetching::Idle => FetchOut { f, d: Latch::Empty },
-            Fetching::Fault(cause) => FetchOut {
+        Flow::Moves => match (asked, arrival) {
+            (Err(cause), _) => FetchOut {
                 f: f.wrapping_add(4),
-                d: Latch::Faulting(f, cause),
+                d: Latch::Faulting(Stop { address: f, cause }),
             },
-            Fetching::Ask => match arrival {
-                Some(x) => FetchOut {
-                    f: x.guess,
-                    d: Latch::Full(x),
-                },
-                None => FetchOut { f, d: Latch::Empty },
+            (Ok(Some(_)), Some(x)) => FetchOut {
+                f: x.guess,
+                d: Latch::Full(x),
             },
+            (Ok(_), _) => FetchOut { f, d: Latch::Empty },
         },
     }
 }

@@ -12,7 +12,7 @@ pub fn stop_of(w: &Latch<Completed>) -> Option<Stop>
     ensures { result ≡ stop_of w.now }
 {
     match *w {
-        Latch::Faulting(address, cause) => Some(Stop { address, cause }),
+        Latch::Faulting(stop) => Some(stop),
         Latch::Empty | Latch::Full(_) => None,
     }
 }
@@ -26,7 +26,7 @@ pub fn retirement_of(w: &Latch<Completed>) -> Option<Retirement>
             retired: Retired::new(c.address, c.word, c.rd, c.value),
             outcome: c.outcome,
         }),
-        Latch::Empty | Latch::Faulting(_, _) => None,
+        Latch::Empty | Latch::Faulting(_) => None,
     }
 }
 
@@ -34,10 +34,7 @@ pub fn retirement_of(w: &Latch<Completed>) -> Option<Retirement>
 pub fn outcome_of(retirement: &Option<Retirement>) -> Option<Outcome>
     ensures { result ≡ outcome_of retirement.now }
 {
-    match *retirement {
-        Some(r) => r.outcome,
-        None => None,
-    }
+    retirement.and_then(|r| r.outcome)
 }
 
 /// Writes what retires to the register file.

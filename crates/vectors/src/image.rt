@@ -1,6 +1,7 @@
 //! Images as the vectors have them.
-ghost use Rattle.std.specs.Prelude.{◌≡◌, replicate, IfOk, string_bytes, slice_set};
+ghost use Rattle.std.specs.Prelude.{◌≡◌, codes, replicate, IfOk, IfSome, string_bytes, slice_set};
 ghost use Rattle.vectors.specs.Images.{with_word_at, Hexadecimal};
+ghost use Rattle.vectors.specs.Lines.{Heads, Says};
 
 use std::alloc::{AllocError, Global};
 
@@ -64,14 +65,19 @@ pub fn hexadecimal(text: &str) -> Option<u32>
 }
 
 /// `NAME START SIZE`
-fn header(rest: &str) -> Option<Line> {
+fn header(rest: &str) -> Option<Line>
+    ensures { IfSome result (λ l. Heads rest.now l) }
+{
     let (name, rest) = rest.split_once(' ')?;
     let (start, size) = rest.split_once(' ')?;
     Some(Line::Image(name, hexadecimal(start)?, hexadecimal(size)?))
 }
 
 /// What a line says, if it says anything.
-pub fn line_of(text: &str) -> Option<Line> {
+pub fn line_of(text: &str) -> Option<Line>
+    ensures says { IfSome result (λ l. Says text.now l) }
+    ensures run { text.now ≡ codes "run" → result ≡ Some Line.Run }
+{
     if text == "run" {
         return Some(Line::Run);
     }

@@ -1,7 +1,7 @@
 //! What a memory is asked.
 
 /// Which bytes of a word a write sets: `b0` is the lowest.
-#[derive(Clone, Copy, PartialEq, Eq, Debug)]
+#[derive(Clone, Copy, PartialEq, Eq, Debug, Default)]
 pub struct Lanes {
     pub b0: bool,
     pub b1: bool,

@@ -1,10 +1,9 @@
 -- A layer that is chosen at run time: each means what the chosen one means. Assumes nothing.
-use Rattle.std.specs.Prelude.{◌≡◌, ℕ, ◌+◌, ◌*◌, Bool, true, false, [], Result}
+use Rattle.std.specs.Prelude.{◌≡◌, ℕ, ◌+◌, ◌*◌, Bool, true, false, [], Some, None, Option, Result}
 use Rattle.base.specs.Refusals.{Says}
 use Rattle.base.specs.declared.bus.Request.{Request}
 use Rattle.base.specs.declared.refusal.Refusal.{Refusal}
 use Rattle.memory.specs.Meaning.{Reply}
-use Rattle.wait_states.specs.declared.Counting.TheVariants.{Nothing}
 use Rattle.wait_states.specs.declared.WaitStates.{WaitStates}
 use Rattle.write_buffer.specs.declared.WriteBuffer.{WriteBuffer}
 use Rattle.write_buffer.specs.Held.{pending}
@@ -12,7 +11,7 @@ use Rattle.memory.specs.Meaning.{View, Meaning}
 use Rattle.wait_states.specs.WaitStates.{wait_fits, wait_view, wait_means}
 use Rattle.write_buffer.specs.WriteBuffer.{buffer_fits, buffer_view, buffer_means}
 use Rattle.setup.specs.declared.choice.LayerChoice.{LayerChoice}
-use Rattle.setup.specs.declared.choice.LayerChoice.TheVariants.{Plain as NoLayer, WaitStates as SomeWaits, WriteBuffer as ABuffer}
+use Rattle.setup.specs.declared.choice.LayerChoice.TheVariants.{WaitStates as SomeWaits, WriteBuffer as ABuffer}
 use Rattle.choice.specs.declared.layer.Layer.{Layer}
 use Rattle.choice.specs.declared.layer.Layer.TheVariants.{Plain, WaitStates as Waits, WriteBuffer as Buffers}
 
@@ -67,7 +66,7 @@ module _ {M : Type 0} where
   pub record WaitsOver (lower : M) (s : ℕ) (w : WaitStates M) : Type 0 where
     pub below : w.below ≡ lower
     pub states : w.states ≡ s
-    pub counting : w.counting ≡ Nothing
+    pub counting : w.counting ≡ None
 
   -- a write buffer over a memory, that holds nothing
   pub record BufferOver (lower : M) (b : WriteBuffer M) : Type 0 where
@@ -75,34 +74,34 @@ module _ {M : Type 0} where
     pub held : pending b.held ≡ []
 
   -- the chosen layer over a memory, as it starts
-  abbrev pub Starts : M → LayerChoice → Layer M → Type 0
-  Starts below NoLayer (Plain m) = m ≡ below
-  Starts below NoLayer (Waits w) = ⊥
-  Starts below NoLayer (Buffers b) = ⊥
-  Starts below (SomeWaits s) (Plain m) = ⊥
-  Starts below (SomeWaits s) (Waits w) = WaitsOver below s w
-  Starts below (SomeWaits s) (Buffers b) = ⊥
-  Starts below ABuffer (Plain m) = ⊥
-  Starts below ABuffer (Waits w) = ⊥
-  Starts below ABuffer (Buffers b) = BufferOver below b
+  abbrev pub Starts : M → Option LayerChoice → Layer M → Type 0
+  Starts below None (Plain m) = m ≡ below
+  Starts below None (Waits w) = ⊥
+  Starts below None (Buffers b) = ⊥
+  Starts below (Some (SomeWaits s)) (Plain m) = ⊥
+  Starts below (Some (SomeWaits s)) (Waits w) = WaitsOver below s w
+  Starts below (Some (SomeWaits s)) (Buffers b) = ⊥
+  Starts below (Some ABuffer) (Plain m) = ⊥
+  Starts below (Some ABuffer) (Waits w) = ⊥
+  Starts below (Some ABuffer) (Buffers b) = BufferOver below b
 
 abbrev pub layer_means : {M : Type 0} → Meaning M → Meaning (Layer M)
 layer_means m = record { view = layer_view m.view; serves = LayerServes m; idles = LayerIdles m }
 
 -- the chosen layer can stand over a memory whose longest wait is l
-abbrev pub layer_fits : LayerChoice → ℕ → Bool
-layer_fits NoLayer l = true
-layer_fits (SomeWaits s) l = wait_fits s l
-layer_fits ABuffer l = buffer_fits l
+abbrev pub layer_fits : Option LayerChoice → ℕ → Bool
+layer_fits None l = true
+layer_fits (Some (SomeWaits s)) l = wait_fits s l
+layer_fits (Some ABuffer) l = buffer_fits l
 
 -- the longest wait of the chosen layer over such a memory
-abbrev pub layer_wait : LayerChoice → ℕ → ℕ
-layer_wait NoLayer l = l
-layer_wait (SomeWaits s) l = s + l
-layer_wait ABuffer l = 5 * l + 4
+abbrev pub layer_wait : Option LayerChoice → ℕ → ℕ
+layer_wait None l = l
+layer_wait (Some (SomeWaits s)) l = s + l
+layer_wait (Some ABuffer) l = 5 * l + 4
 
 -- The chosen layer over a memory where it fits, as it starts: the size and the bytes are those below, and it has its own longest wait.
-pub record Stands {M : Type 0} (v : View M) (lower : M) (choice : LayerChoice) (l : Layer M) : Type 0 where
+pub record Stands {M : Type 0} (v : View M) (lower : M) (choice : Option LayerChoice) (l : Layer M) : Type 0 where
   pub fits : layer_fits choice (v.longest lower) ≡ true
   pub starts : Starts lower choice l
   pub size : (layer_view v).size l ≡ v.size lower
@@ -110,5 +109,5 @@ pub record Stands {M : Type 0} (v : View M) (lower : M) (choice : LayerChoice) (
   pub longest : (layer_view v).longest l ≡ layer_wait choice (v.longest lower)
 
 -- The answer to a memory and a choice: the layer, or number 2 where it does not fit.
-abbrev pub Added : {M : Type 0} → View M → M → LayerChoice → Result (Layer M) Refusal → Type 0
+abbrev pub Added : {M : Type 0} → View M → M → Option LayerChoice → Result (Layer M) Refusal → Type 0
 Added v lower choice = Says (Stands v lower choice) (λ why. (why ≡ 2) × (layer_fits choice (v.longest lower) ≡ false))

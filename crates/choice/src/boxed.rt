@@ -4,7 +4,7 @@ ghost use Rattle.choice.specs.Boxes.{boxed_means, inside};
 ghost use Rattle.choice.specs.BoxLaws.{boxed_lawful};
 
 use base::bus::Lanes;
-use memory::{Answer, Memory};
+use memory::{Memory, Unserved};
 use std::alloc::{AllocFailed, Global};
 
 /// A memory on the heap: a chosen stack has too many fields for two of them to stand in one machine.
@@ -19,10 +19,9 @@ impl<M: Memory> Boxed<M> {
         ensures made { IfOk result (λ b. inside b ≡ memory) }
         ensures refused { IfErr result (λ back. back.value ≡ memory) }
     {
-        match Box::new(heap, memory) {
-            Ok(memory) => Ok(Boxed { memory }),
-            Err(back) => Err(back),
-        }
+        Ok(Boxed {
+            memory: Box::new(heap, memory)?,
+        })
     }
 }
 
@@ -31,11 +30,11 @@ impl<M: Memory> Memory for Boxed<M> {
 
     ghost obeys = { boxed_lawful M.Memory.obeys };
 
-    fn read(&mut self, address: u32) -> Answer<u32> {
+    fn read(&mut self, address: u32) -> Result<u32, Unserved> {
         self.memory.read(address)
     }
 
-    fn write(&mut self, address: u32, word: u32, lanes: Lanes) -> Answer<()> {
+    fn write(&mut self, address: u32, word: u32, lanes: Lanes) -> Result<(), Unserved> {
         self.memory.write(address, word, lanes)
     }
 

@@ -5,12 +5,13 @@ ghost use Rattle.choice.specs.LayerLaws.{layer_lawful};
 
 use base::bus::Lanes;
 use base::refusal::Refusal;
-use memory::{Answer, Memory};
+use memory::{Memory, Unserved};
 use setup::choice::LayerChoice;
 use wait_states::WaitStates;
 use write_buffer::WriteBuffer;
 
 /// A memory with no layer, with wait states or with a write buffer over it.
+// An enum, and no `dyn Memory`: a function may not make a `dyn` and hand it out.
 #[derive(Drop)]
 pub enum Layer<M: Memory> {
     Plain(M),
@@ -20,37 +21,37 @@ pub enum Layer<M: Memory> {
 
 impl<M: Memory> Layer<M> {
     /// Refuses a layer that does not pass its own check over that memory.
-    pub fn check(below: &M, choice: LayerChoice) -> Result<(), Refusal>
+    pub fn check(below: &M, choice: Option<LayerChoice>) -> Result<(), Refusal>
         ensures { Checked (layer_fits choice (M.Memory.means.view.longest below.now)) 2 result }
     {
         match choice {
-            LayerChoice::Plain => Ok(()),
-            LayerChoice::WaitStates(states) => WaitStates::check(below, states),
-            LayerChoice::WriteBuffer => WriteBuffer::check(below),
+            None => Ok(()),
+            Some(LayerChoice::WaitStates(states)) => WaitStates::check(below, states),
+            Some(LayerChoice::WriteBuffer) => WriteBuffer::check(below),
         }
     }
 
     /// The chosen layer over a memory; of size 0 if it does not pass the check.
-    pub fn new(below: M, choice: LayerChoice) -> Layer<M>
+    pub fn new(below: M, choice: Option<LayerChoice>) -> Layer<M>
         ensures { Starts below choice result }
     {
         match choice {
-            LayerChoice::Plain => Layer::Plain(below),
-            LayerChoice::WaitStates(states) => Layer::WaitStates(WaitStates::new(below, states)),
-            LayerChoice::WriteBuffer => Layer::WriteBuffer(WriteBuffer::new(below)),
+            None => Layer::Plain(below),
+            Some(LayerChoice::WaitStates(states)) => {
+                Layer::WaitStates(WaitStates::new(below, states))
+            }
+            Some(LayerChoice::WriteBuffer) => Layer::WriteBuffer(WriteBuffer::new(below)),
         }
     }
 }
 
 impl<M: Memory + Drop> Layer<M> {
     /// The chosen layer over a memory, if it passes the check.
-    pub(crate) fn checked(below: M, choice: LayerChoice) -> Result<Layer<M>, Refusal>
+    pub(crate) fn checked(below: M, choice: Option<LayerChoice>) -> Result<Layer<M>, Refusal>
         ensures { Added M.Memory.means.view below choice result }
     {
-        match Layer::check(&below, choice) {
-            Ok(()) => Ok(Layer::new(below, choice)),
-            Err(why) => Err(why),
-        }
+        Layer::check(&below, choice)?;
+        Ok(Layer::new(below, choice))
     }
 }
 
@@ -59,7 +60,7 @@ impl<M: Memory> Memory for Layer<M> {
 
     ghost obeys = { layer_lawful M.Memory.obeys };
 
-    fn read(&mut self, address: u32) -> Answer<u32> {
+    fn read(&mut self, address: u32) -> Result<u32, Unserved> {
         match self {
             Layer::Plain(memory) => memory.read(address),
             Layer::WaitStates(memory) => memory.read(address),
@@ -67,7 +68,7 @@ impl<M: Memory> Memory for Layer<M> {
         }
     }
 
-    fn write(&mut self, address: u32, word: u32, lanes: Lanes) -> Answer<()> {
+    fn write(&mut self, address: u32, word: u32, lanes: Lanes) -> Result<(), Unserved> {
         match self {
             Layer::Plain(memory) => memory.write(address, word, lanes),
             Layer::WaitStates(memory) => memory.write(address, word, lanes),

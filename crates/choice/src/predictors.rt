@@ -12,6 +12,7 @@ use predictor::tournament::Tournament;
 use setup::choice::{PredictorChoice, SimpleChoice};
 
 /// A predictor that stands alone. The kinds are parameters, so that a method is proved from what any predictor promises; a run has those that stand as defaults.
+// An enum, and no `dyn Predictor`: a function may not make a `dyn` and hand it out.
 #[derive(Drop)]
 pub enum Simple<N = Never, W = Backward, C = Bimodal, G = Gshare> {
     Never(N),
@@ -57,6 +58,7 @@ impl<N: Predictor, W: Predictor, C: Predictor, G: Predictor> Predictor for Simpl
 }
 
 /// A predictor that stands alone, or a tournament over two of them; its kinds are parameters for the same reason.
+// An enum, and no `dyn Predictor`, for the reason given at Simple.
 #[derive(Drop)]
 pub enum Chosen<S = Simple, T = Tournament<Simple, Simple>> {
     Simple(S),

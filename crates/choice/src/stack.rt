@@ -10,6 +10,7 @@ use setup::choice::StackChoice;
 pub type Stack = Layer<Layer<Layer<Flat>>>;
 
 /// The chosen stack over a flat memory of these bytes. Refuses, from the bottom up, what does not pass its check.
+#[tactic(auto, using(crate::proofs::Stacking::stacked))]
 pub fn build(bytes: Vec<u8>, choice: StackChoice) -> Result<Stack, Refusal>
     ensures { Answered bytes choice result }
 {

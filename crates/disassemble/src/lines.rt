@@ -1,20 +1,24 @@
 //! Words and their lines of assembly.
-use assembly::assembly;
+use assembly::text::AssemblyText;
 use std::alloc::{AllocError, Global};
+use std::fmt;
 use vectors::image::hexadecimal;
 use words::decoding::decode;
 
 /// A word's line: the word as it was given, and its instruction or `illegal`.
-fn line(heap: Global, text: &str) -> Result<String, AllocError> {
-    let Some(word) = hexadecimal(text) else {
-        return format!(in heap; "{text} no word\n");
-    };
-    match decode(word) {
-        Some(instruction) => {
-            let instruction = assembly(heap, instruction)?;
-            format!(in heap; "{text} {instruction}\n")
+#[derive(Clone, Copy)]
+struct LineText<'a>(&'a str);
+
+impl fmt::Display for LineText<'_> {
+    fn fmt<W: fmt::Write>(&self, f: &mut fmt::Formatter<W>) -> fmt::Result {
+        let text = self.0;
+        let Some(word) = hexadecimal(text) else {
+            return write!(f, "{text} no word");
+        };
+        match decode(word) {
+            Some(instruction) => write!(f, "{text} {}", AssemblyText(instruction)),
+            None => write!(f, "{text} illegal"),
         }
-        None => format!(in heap; "{text} illegal\n"),
     }
 }
 
@@ -22,8 +26,7 @@ fn line(heap: Global, text: &str) -> Result<String, AllocError> {
 pub fn disassemble_all(heap: Global, text: &str) -> Result<String, AllocError> {
     let mut output = String::new(heap);
     for word in text.split_whitespace() {
-        let line = line(heap, word)?;
-        output.push_str(line.as_str())?;
+        writeln!(output, "{}", LineText(word))?;
     }
     Ok(output)
 }

@@ -1,3 +1,4 @@
+pub mod Answers
 pub mod Hex
 pub mod Images
 pub mod Lines

@@ -2,14 +2,14 @@
 use Rattle.std.specs.Prelude.{◌≡◌, ℕ, ◌-◌, ◌%◌, ◌<◌, ◌≤◌, List, [], ◌++◌, length, replicate, None, Ok, Err, string_bytes, Option, Result, String, slice_index}
 use Rattle.std.specs.declared.alloc.Global.{Global}
 use Rattle.base.specs.Refusals.{number}
+use Rattle.base.specs.declared.failure.Failure.{Failure}
+use Rattle.base.specs.declared.failure.Failure.TheVariants.{Refused, OutOfMemory}
 use Rattle.sequential.specs.Runs.{Ran}
 use Rattle.sequential.specs.Sequential.{State, World}
 use Rattle.sequential.specs.declared.record.Retired.{Retired}
 use Rattle.sequential.specs.declared.record.Stop.{Stop}
 use Rattle.listing.specs.Images.{padded_size}
 use Rattle.listing.specs.Sequences.{sequence_text}
-use Rattle.listing.specs.declared.image.ImageError.{ImageError}
-use Rattle.listing.specs.declared.image.ImageError.TheVariants.{Refused, NoMemory}
 
 -- the bytes of an image, and 4096 bytes of data
 abbrev pub world_for : List ℕ → World
@@ -28,7 +28,7 @@ pub record Printed (image text : List ℕ) : Type 0 where
   pub shown : text ≡ sequence_text retired stop
 
 -- what the program answers to its input
-abbrev pub Answered : List ℕ → Result (String Global) ImageError → Type 0
+abbrev pub Answered : List ℕ → Result (String Global) Failure → Type 0
 Answered input (Ok text) = (length input ≤ 65536) × Printed (input ++ replicate (padded_size (length input) - length input) 0) (string_bytes text)
 Answered input (Err (Refused why)) = (number why ≡ 1) × (65536 < length input)
-Answered input (Err NoMemory) = Unit {0}
+Answered input (Err OutOfMemory) = Unit {0}

@@ -1,39 +1,33 @@
 //! Images as the programs take them.
-ghost use Rattle.std.specs.Prelude.{◌≡◌, ◌≤◌};
-ghost use Rattle.listing.specs.Images.{padded_size, Padded};
+ghost use Rattle.std.specs.Prelude.{◌≡◌, true, vec_len};
+ghost use Rattle.memory.specs.Flat.{flat_fits};
 
-use base::refusal::Refusal;
+mod from_words;
+mod padding;
 
-/// Why there is no padded image.
-#[derive(Clone, Copy, Debug)]
-pub enum ImageError {
-    /// It is too large.
-    Refused(Refusal),
-    /// There is no memory for it.
-    NoMemory,
+pub use from_words::bytes_of;
+pub use padding::padded;
+
+/// An image of as many bytes as a flat memory can have.
+#[derive(Drop)]
+pub struct PaddedImage {
+    bytes: Vec<u8>,
+    ghost fits: { flat_fits (vec_len bytes) ≡ true },
 }
 
-/// How many bytes an image is padded to: a multiple of 16, and at least 16.
-fn padded_size(len: usize) -> usize
-    requires { len ≤ 65536 }
-    ensures { result ≡ padded_size len }
-{
-    ((len + 15) / 16 * 16).max(16)
-}
+impl PaddedImage {
+    /// The bytes, with the padding.
+    pub fn bytes(&self) -> &[u8]
+        ensures { result.now ≡ self.now.bytes.items }
+    {
+        &self.bytes
+    }
 
-/// An image with zeros behind it up to a multiple of 16, at least 16 bytes in all; refused above 65536 bytes.
-pub fn padded(image: Vec<u8>) -> Result<Vec<u8>, ImageError>
-    ensures { Padded image.items result }
-{
-    if image.len() > 65536 {
-        return Err(ImageError::Refused(Refusal::FlatSize));
+    /// The bytes, as what a flat memory is made of.
+    pub fn into_bytes(self) -> Vec<u8>
+        ensures bytes { result ≡ self.bytes }
+        ensures fits { flat_fits (vec_len result) ≡ true }
+    {
+        self.bytes
     }
-    let size = padded_size(image.len());
-    let mut bytes = image;
-    while bytes.len() < size {
-        if bytes.push(0).is_err() {
-            return Err(ImageError::NoMemory);
-        }
-    }
-    Ok(bytes)
 }

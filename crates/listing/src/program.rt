@@ -1,10 +1,10 @@
 //! A program from its input to its print.
-ghost use Rattle.std.specs.Prelude.{◌≡◌, true, length, IfOk, vec_len, string_bytes};
-ghost use Rattle.memory.specs.Flat.{flat_fits};
+ghost use Rattle.std.specs.Prelude.{IfOk, string_bytes};
 ghost use Rattle.listing.specs.Programs.{Printed, Answered};
 
-use crate::image::{ImageError, padded};
+use crate::image::{PaddedImage, padded};
 use crate::sequence::sequence_text;
+use base::failure::Failure;
 use base::log::Log;
 use memory::Flat;
 use sequential::machine::Machine;
@@ -18,12 +18,11 @@ const LIMIT: usize = 1000;
 const DATA: usize = 4096;
 
 /// Runs an image on the sequential machine, from address 0, and prints what retired.
-fn print_of(heap: Global, image: Vec<u8>) -> Result<String, AllocError>
-    requires { flat_fits (vec_len image) ≡ true }
-    ensures { IfOk result (λ t. Printed image.items (string_bytes t)) }
+fn print_of(heap: Global, image: PaddedImage) -> Result<String, AllocError>
+    ensures { IfOk result (λ t. Printed image.bytes.items (string_bytes t)) }
 {
     let data = vec![in heap; 0u8; DATA]?;
-    let mut machine = Machine::new(0, Flat::new(image), Flat::new(data));
+    let mut machine = Machine::new(0, Flat::new(image.into_bytes()), Flat::new(data));
     let mut slots = [Retired::EMPTY; LIMIT];
     let mut log = Log::new(&mut slots);
     let stop = machine.run(&mut log);
@@ -31,14 +30,9 @@ fn print_of(heap: Global, image: Vec<u8>) -> Result<String, AllocError>
 }
 
 /// What is printed of an input, which is padded and then run; refused above 65536 bytes.
-pub fn sequence_of(heap: Global, input: Vec<u8>) -> Result<String, ImageError>
+pub fn sequence_of(heap: Global, input: Vec<u8>) -> Result<String, Failure>
     ensures { Answered input.items result }
 {
-    match padded(input) {
-        Ok(image) => match print_of(heap, image) {
-            Ok(text) => Ok(text),
-            Err(AllocError) => Err(ImageError::NoMemory),
-        },
-        Err(error) => Err(error),
-    }
+    let image = padded(input)?;
+    Ok(print_of(heap, image)?)
 }

@@ -1,34 +1,38 @@
 //! The print of a sequential run.
-ghost use Rattle.std.specs.Prelude.{◌≡◌, ◌+◌, ◌^◌, ◌<◌, cond, ◌++◌, is_ok, IfOk, string_bytes};
+ghost use Rattle.std.specs.Prelude.{◌≡◌, ◌++◌, OnOk, IfOk, string_bytes};
 ghost use Rattle.listing.specs.Sequences.{retired_line, end_line, sequence_text};
 
 use crate::records::{RecordText, StopText};
+use crate::table::{Columns, write_table};
 use sequential::record::{Retired, Stop};
 use std::alloc::{AllocError, Global};
 use std::fmt::Write;
 
-/// The line of a retired instruction, with its number in the run.
-fn retired_line(heap: Global, number: usize, retired: Retired) -> Result<String, AllocError>
-    ensures { IfOk result (λ t. string_bytes t ≡ retired_line number retired) }
-{
-    let record = RecordText(retired);
-    format!(in heap; "{number} {record}\n")
+/// A retired instruction, behind its number in the run.
+struct RetiredColumns;
+
+impl Columns for RetiredColumns {
+    type Record = Retired;
+
+    ghost line = { retired_line };
+
+    fn write_line(text: &mut String, number: usize, record: &Retired) -> Result<(), AllocError> {
+        writeln!(text, "{number} {}", RecordText(*record))
+    }
 }
 
-/// The last line: the stop, or that the limit was met, and how many retired.
-fn end_line(heap: Global, number: usize, stop: Option<Stop>) -> Result<String, AllocError>
-    ensures { IfOk result (λ t. string_bytes t ≡ end_line number stop) }
+/// Writes the last line: the stop, or that the limit was met, and how many retired.
+fn write_end(text: &mut String, number: usize, stop: Option<Stop>) -> Result<(), AllocError>
+    ensures { OnOk result (string_bytes text.new ≡ string_bytes text.old ++ end_line number stop) }
 {
     match stop {
-        Some(stop) => {
-            let stop = StopText(stop);
-            format!(in heap; "stop {stop} retired {number}\n")
-        }
-        None => format!(in heap; "limit retired {number}\n"),
+        Some(stop) => writeln!(text, "stop {} retired {number}", StopText(stop)),
+        None => writeln!(text, "limit retired {number}"),
     }
 }
 
 /// What a sequential run prints of the instructions that it retired and of its end.
+#[tactic(auto, unfolding(crate::specs::Sequences::sequence_text, crate::specs::Sequences::head_line))]
 pub fn sequence_text(
     heap: Global,
     retired: &[Retired],
@@ -36,12 +40,8 @@ pub fn sequence_text(
 ) -> Result<String, AllocError>
     ensures { IfOk result (λ t. string_bytes t ≡ sequence_text retired.now stop) }
 {
-    let mut text = String::from_str(heap, "retired address word rd value\n")?;
-    for (i, record) in retired.iter().enumerate() {
-        let line = retired_line(heap, i + 1, *record)?;
-        text.push_str(line.as_str())?;
-    }
-    let line = end_line(heap, retired.len(), stop)?;
-    text.push_str(line.as_str())?;
+    let mut text = String::new(heap);
+    write_table::<RetiredColumns>(&mut text, "retired address word rd value\n", retired)?;
+    write_end(&mut text, retired.len(), stop)?;
     Ok(text)
 }

@@ -6,9 +6,9 @@ ghost use Rattle.longrun.specs.Gaps.{gaps_after};
 ghost use Rattle.longrun.specs.LongRuns.{RanTo, empty_logs};
 
 use crate::gaps::Gaps;
-use base::log::Log;
 use clocking::state::ClockRecord;
 use memory::Memory;
+use pipeline::journal::Journal;
 use pipeline::machine::{Machine, RetiredAt, Run};
 use predictor::Predictor;
 
@@ -16,6 +16,7 @@ use predictor::Predictor;
 const SLOTS: usize = 256;
 
 /// What is told now and then how far a run has come.
+// A trait and no closure: of a closure `run_to` would have to require that it may be called.
 pub trait Watch {
     /// The clocks that were made so far.
     fn made(&mut self, clocks: u32);
@@ -39,10 +40,9 @@ fn stretch<P: Predictor, I: Memory, D: Memory>(
 ) -> Run
     ensures { (es : List Event) × Ran P.Predictor.table I.Memory.means D.Memory.means (empty_logs (length retired_slots.old) (length clock_slots.old)) machine.old n result es machine.new × (gaps.new ≡ gaps_after gaps.old (retired_entries es)) }
 {
-    let mut retired = Log::new(retired_slots);
-    let mut clocks = Log::new(clock_slots);
-    let run = machine.run(n, &mut retired, &mut clocks);
-    gaps.note(retired.records());
+    let mut journal = Journal::new(retired_slots, clock_slots);
+    let run = machine.run(n, &mut journal);
+    gaps.note(journal.retirements.records());
     run
 }
 

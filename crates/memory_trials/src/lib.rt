@@ -10,7 +10,7 @@ mod tests {
     use Step::{Idle, Misses, Reads, Told, Writes};
     use base::bus::{Lanes, Request};
     use base::refusal::Refusal;
-    use memory::{Flat, Memory, Repeated, Reply, ask, insist};
+    use memory::{Answer, Flat, Memory, Repeated, Unserved, ask, insist};
     use std::alloc::{AllocError, Global};
     use std::process::Abort;
     use std::test::Fail;
@@ -34,14 +34,14 @@ mod tests {
         for step in steps {
             match *step {
                 Reads(address, word, waits) => {
-                    let reply = Reply::Word(word);
+                    let reply = Ok(Answer::Word(word));
                     assert_eq!(rt;
                         insist(memory, Request::Read { address }),
                         Repeated { reply, waits }
                     );
                 }
                 Writes(address, word, waits) => {
-                    let reply = Reply::Done;
+                    let reply = Ok(Answer::Done);
                     let lanes = Lanes {
                         b0: true,
                         b1: true,
@@ -62,11 +62,11 @@ mod tests {
                 }
                 Told(address) => assert_eq!(rt;
                     ask(memory, Request::Read { address }),
-                    Reply::Wait
+                    Err(Unserved::Wait)
                 ),
                 Misses(address) => assert_eq!(rt;
                     ask(memory, Request::Read { address }),
-                    Reply::Outside
+                    Err(Unserved::Outside)
                 ),
                 Idle => memory.idle(),
             }
@@ -131,7 +131,7 @@ mod tests {
             b2: false,
             b3: true,
         };
-        flat.write(28, 0x0d0c_0b0a, odd);
+        assert_eq!(rt; flat.write(28, 0x0d0c_0b0a, odd), Ok(()));
         assert_eq!(rt; flat.peek(29), Some(0x0b));
         try_steps(&rt, &mut flat, &[Reads(28, 0x0d03_0b01, 0)]);
         Ok(())

@@ -61,8 +61,8 @@ module _ {P I D : Type 0} {table : Table P} {instructions : Meaning I} {words : 
     )
 
   -- as many as were asked for
-  pub all_made : {k : ℕ} {j : Logs} {p : Machine P I D} (cs : ClocksInto table instructions words l m k j p) (n : ℕ) → k ≡ n → (k ≡ 0 → Free j p) → RanInto table instructions words l m n (record { made = k; why = None }) j p
-  all_made cs n e f = (cs.events, (cs.steps, (e, λ z. rw cs.logs_so at (f z))), cs.logs_so)
+  pub all_made : {k : ℕ} {j : Logs} {p : Machine P I D} (cs : ClocksInto table instructions words l m k j p) (n : ℕ) → k ≡ n → (k ≡ 0 → Free j p) → RanInto table instructions words l m n (record { made = n; why = None }) j p
+  all_made cs n e f = (cs.events, (rw (← e) cs.steps, (refl, λ z. rw cs.logs_so at (f (e ∙ z)))), cs.logs_so)
 
   -- refused before the first
   pub at_once : (n : ℕ) (why : Refusal) → Blocked l m why → RanInto table instructions words l m n (record { made = 0; why = Some why }) l m

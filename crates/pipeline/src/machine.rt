@@ -44,6 +44,7 @@ pub struct Totals {
     pub retired: u32,
     pub dropped: u32,
     pub in_flight: u32,
+    // a number, since it is a part of the balance of what was fetched
     pub stopped: u32,
 }
 

@@ -3,6 +3,7 @@ use listing::hex::Hex;
 use listing::records::{RecordText, StopText};
 use sequential::record::{Retired, Stop};
 use std::alloc::{AllocError, Global};
+use std::fmt::Write;
 use vectors::digest::Digest;
 
 /// How many records are told in full; the others are in the digest.
@@ -17,7 +18,6 @@ const CHANGED: u32 = 16;
 /// What is told of a run so far.
 #[derive(Drop)]
 pub struct Account {
-    heap: Global,
     text: String,
     retired: u32,
     digest: Digest,
@@ -27,7 +27,6 @@ impl Account {
     /// Of a run in which nothing has retired.
     pub fn new(heap: Global) -> Account {
         Account {
-            heap,
             text: String::new(heap),
             retired: 0,
             digest: Digest::EMPTY,
@@ -45,13 +44,11 @@ impl Account {
         let number = self.retired;
         if number <= SHOWN {
             let record = RecordText(retired);
-            let line = format!(in self.heap; "{number} {record}\n")?;
-            self.text.push_str(line.as_str())?;
+            writeln!(self.text, "{number} {record}")?;
         }
         if number % PART == 0 {
             let digest = self.digest.0;
-            let line = format!(in self.heap; "digest {number} {digest:016x}\n")?;
-            self.text.push_str(line.as_str())?;
+            writeln!(self.text, "digest {number} {digest:016x}")?;
         }
         Ok(())
     }
@@ -60,26 +57,26 @@ impl Account {
     pub fn end(&mut self, stop: Option<Stop>) -> Result<(), AllocError> {
         let retired = self.retired;
         let digest = self.digest.0;
-        let line = match stop {
+        match stop {
             Some(stop) => {
                 let stop = StopText(stop);
-                format!(in self.heap; "stop {stop} retired {retired} digest {digest:016x}\n")?
+                writeln!(
+                    self.text,
+                    "stop {stop} retired {retired} digest {digest:016x}"
+                )
             }
-            None => format!(in self.heap; "limit retired {retired} digest {digest:016x}\n")?,
-        };
-        self.text.push_str(line.as_str())
+            None => writeln!(self.text, "limit retired {retired} digest {digest:016x}"),
+        }
     }
 
     /// Adds the value of a register; there are eight to a line.
     pub fn register(&mut self, number: u32, value: u32) -> Result<(), AllocError> {
         if number % 8 == 0 {
-            let head = format!(in self.heap; "x{number}")?;
-            self.text.push_str(head.as_str())?;
+            write!(self.text, "x{number}")?;
         }
         let value = Hex(value);
         let end = if number % 8 == 7 { "\n" } else { "" };
-        let text = format!(in self.heap; " {value}{end}")?;
-        self.text.push_str(text.as_str())
+        write!(self.text, " {value}{end}")
     }
 
     /// Adds a word of the memory that is not what it was at first, if not too many were told.
@@ -89,15 +86,13 @@ impl Account {
         }
         let address = Hex(address);
         let word = Hex(word);
-        let line = format!(in self.heap; "{address} {word}\n")?;
-        self.text.push_str(line.as_str())
+        writeln!(self.text, "{address} {word}")
     }
 
     /// Adds the digest of the memory, and how many of its words changed.
     pub fn memory(&mut self, digest: Digest, changed: u32) -> Result<(), AllocError> {
         let digest = digest.0;
-        let line = format!(in self.heap; "memory {digest:016x} changed {changed}\n")?;
-        self.text.push_str(line.as_str())
+        writeln!(self.text, "memory {digest:016x} changed {changed}")
     }
 
     /// All that was told.

@@ -6,6 +6,7 @@ use predictor::gshare::Gshare;
 use predictor::never::Never;
 use sequential::machine::Machine;
 use std::alloc::{AllocError, Global};
+use std::fmt::Write;
 use vectors::image::{Image, Line, hexadecimal, line_of};
 use wait_states::WaitStates;
 use write_buffer::WriteBuffer;
@@ -73,17 +74,12 @@ pub fn replay(heap: Global, image: &Image) -> Result<String, AllocError> {
     Ok(text)
 }
 
-/// Puts words in a row into an image; false where one is no number.
-fn put_words(image: &mut Image, address: u32, words: &str) -> bool {
-    let mut address = address;
-    for word in words.split_whitespace() {
-        let Some(word) = hexadecimal(word) else {
-            return false;
-        };
-        image.put(address, word);
-        address = address.wrapping_add(4);
+/// Puts words in a row into an image, as far as they are numbers; none where one is not.
+fn put_words(image: &mut Image, address: u32, words: &str) -> Option<()> {
+    for (place, word) in (0..=u32::MAX).step_by(4).zip(words.split_whitespace()) {
+        image.put(address.wrapping_add(place), hexadecimal(word)?);
     }
-    true
+    Some(())
 }
 
 /// The text for all images that a text has.
@@ -96,21 +92,15 @@ pub fn replay_all(heap: Global, text: &str) -> Result<String, AllocError> {
                 image = Image::new(heap, name, start, size)?;
             }
             Some(Line::Words(address, words)) => {
-                if !put_words(&mut image, address, words) {
-                    output.push_str("no words: ")?;
-                    output.push_str(line)?;
-                    output.push_str("\n")?;
+                if put_words(&mut image, address, words).is_none() {
+                    writeln!(output, "no words: {line}")?;
                 }
             }
             Some(Line::Run) => {
                 let account = replay(heap, &image)?;
                 output.push_str(account.as_str())?;
             }
-            None => {
-                output.push_str("no line: ")?;
-                output.push_str(line)?;
-                output.push_str("\n")?;
-            }
+            None => writeln!(output, "no line: {line}")?,
         }
     }
     Ok(output)

@@ -4,6 +4,7 @@ use base::log::Log;
 use base::refusal::Refusal;
 use clocking::state::ClockRecord;
 use memory::Memory;
+use pipeline::journal::Journal;
 use pipeline::machine::RetiredAt;
 use predictor::Predictor;
 use sequential::record::{Retired, Stop};
@@ -59,10 +60,9 @@ impl<P: Predictor, I: Memory, D: Memory> Runner for pipeline::machine::Machine<P
     fn run_on(&mut self, account: &mut Account) -> Result<(), AllocError> {
         let mut retired_slots = [RetiredAt::EMPTY; ROOM];
         let mut clock_slots = [ClockRecord::EMPTY; ROOM];
-        let mut retired = Log::new(&mut retired_slots);
-        let mut clocks = Log::new(&mut clock_slots);
-        self.run(ROOM as u32, &mut retired, &mut clocks);
-        for record in retired.records() {
+        let mut journal = Journal::new(&mut retired_slots, &mut clock_slots);
+        self.run(ROOM as u32, &mut journal);
+        for record in journal.retirements.records() {
             account.retire(record.retired)?;
         }
         Ok(())
@@ -83,11 +83,8 @@ impl<P: Predictor, I: Memory, D: Memory> Runner for pipeline::machine::Machine<P
 
 /// The word of the data memory at an address; 0 for a byte that is not there.
 fn word_at<R: Runner>(machine: &R, address: u32) -> u32 {
-    let b0 = machine.data(address).unwrap_or(0);
-    let b1 = machine.data(address.wrapping_add(1)).unwrap_or(0);
-    let b2 = machine.data(address.wrapping_add(2)).unwrap_or(0);
-    let b3 = machine.data(address.wrapping_add(3)).unwrap_or(0);
-    u32::from_le_bytes([b0, b1, b2, b3])
+    let byte = |place| machine.data(address.wrapping_add(place)).unwrap_or(0);
+    u32::from_le_bytes([byte(0), byte(1), byte(2), byte(3)])
 }
 
 /// Adds what the registers hold.
@@ -102,15 +99,13 @@ fn registers<R: Runner>(machine: &R, account: &mut Account) -> Result<(), AllocE
 fn memory<R: Runner>(machine: &R, image: &[u8], account: &mut Account) -> Result<(), AllocError> {
     let mut digest = Digest::EMPTY;
     let mut changed = 0u32;
-    let mut address = 0u32;
-    for bytes in image.chunks_exact(4) {
+    for (address, bytes) in (0..=u32::MAX).step_by(4).zip(image.chunks_exact(4)) {
         let word = word_at(machine, address);
         digest = digest.word(word);
         if word.to_le_bytes().as_slice() != bytes {
             changed = changed.wrapping_add(1);
             account.changed(changed, address, word)?;
         }
-        address = address.wrapping_add(4);
     }
     account.memory(digest, changed)
 }
@@ -118,10 +113,9 @@ fn memory<R: Runner>(machine: &R, image: &[u8], account: &mut Account) -> Result
 /// Runs a machine that was loaded with this image, and gives the account of it.
 pub fn account_of<R: Runner + Drop>(
     heap: Global,
-    machine: R,
+    mut machine: R,
     image: &[u8],
 ) -> Result<String, AllocError> {
-    let mut machine = machine;
     let mut account = Account::new(heap);
     for _ in 0..PARTS {
         if machine.stop().is_some() {

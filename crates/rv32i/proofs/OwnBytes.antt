@@ -1,7 +1,7 @@
 -- Loads and stores find and put their own bytes. Assumes nothing.
-use Rattle.std.proofs.Common.{◌≡◌, ℕ, zero, suc, ◌+◌, ◌*◌, ◌/◌, ◌%◌, ◌^◌, ◌<◌, Bool, true, false, cond, ◌&&◌, eqb, ltb, Some, Ok, Err, refl, ap, ◌∙◌, subst, arith}
+use Rattle.std.proofs.Common.{◌≡◌, ℕ, zero, suc, ◌+◌, ◌*◌, ◌/◌, ◌%◌, ◌^◌, ◌<◌, ◌≤◌, Bool, true, false, cond, eqb, ltb, Some, Ok, Err, refl, ap, ◌∙◌, subst, arith}
 use Rattle.std.proofs.lemmas.Int.{ints}
-use Rattle.std.proofs.lemmas.Bool.{eqb-true, eq-eqb, ne_eqb, and_left, and_right, and_from}
+use Rattle.std.proofs.lemmas.Bool.{eqb-true}
 use Rattle.std.proofs.lemmas.Bool.Decides.{nat_tests}
 use Rattle.base.specs.Bytes.{word, put}
 use Rattle.base.specs.declared.bus.Lanes.{Lanes}
@@ -30,7 +30,7 @@ accepts : (q p : Request) (misaligned outside : Cause) (b d : Bool) → cond b (
     → (b ≡ true) × (q ≡ p)
 accepts q p misaligned outside true true e = (refl, cc)
 accepts q p misaligned outside true false e = (refl, cc)
-accepts q p misaligned outside false d e = let z : ◌≡◌ {A = ℕ} 0 1 = cc in absurd (omega arith)
+accepts q p misaligned outside false d e = absurd cc
 
 -- ---- loads
 
@@ -45,26 +45,21 @@ module _ (bytes : ℕ → ℕ) (small : (y : ℕ) → bytes y < 256) (x : ℕ) w
   one_byte : (a r : ℕ) → r < 4 → x ≡ a + r → word bytes a / 2 ^ (8 * r) % 2 ^ 8 ≡ bytes x
   one_byte a =
       by_place (λ (r : ℕ). x ≡ a + r → word bytes a / 2 ^ (8 * r) % 2 ^ 8 ≡ bytes x)
-      (λ e. let i : bytes x ≡ bytes a = ap bytes (omega arith) in omega (arith, small a, small (a + 1), small (a + 2), small (a + 3)))
-      (λ e. let i : bytes x ≡ bytes (a + 1) = ap bytes e in omega (arith, small a, small (a + 1), small (a + 2), small (a + 3)))
-      (λ e. let i : bytes x ≡ bytes (a + 2) = ap bytes e in omega (arith, small a, small (a + 1), small (a + 2), small (a + 3)))
-      (λ e. let i : bytes x ≡ bytes (a + 3) = ap bytes e in omega (arith, small a, small (a + 1), small (a + 2), small (a + 3)))
+      (λ e. grind (arith, small))
+      (λ e. grind (arith, small))
+      (λ e. grind (arith, small))
+      (λ e. grind (arith, small))
 
   two_bytes : (a r : ℕ) → r < 4 → x ≡ a + r → r % 2 ≡ 0 → word bytes a / 2 ^ (8 * r) % 2 ^ 16 ≡ little bytes x 2
   two_bytes a =
       by_place (λ (r : ℕ). x ≡ a + r → r % 2 ≡ 0 → word bytes a / 2 ^ (8 * r) % 2 ^ 16 ≡ little bytes x 2)
-      (λ e m. let i : bytes x ≡ bytes a = ap bytes (omega arith) in let j : bytes (x + 1) ≡ bytes (a + 1) = ap bytes (omega arith) in omega (arith, small a, small (a + 1), small (a + 2), small (a + 3)))
+      (λ e m. grind (arith, small))
       (λ e m. absurd (omega arith))
-      (λ e m. let i : bytes x ≡ bytes (a + 2) = ap bytes e in let j : bytes (x + 1) ≡ bytes (a + 3) = ap bytes (omega arith) in omega (arith, small a, small (a + 1), small (a + 2), small (a + 3)))
+      (λ e m. grind (arith, small))
       (λ e m. absurd (omega arith))
 
   four_bytes : (a r : ℕ) → x ≡ a + r → r ≡ 0 → word bytes a / 2 ^ (8 * r) ≡ little bytes x 4
-  four_bytes a r e z =
-      let i : bytes x ≡ bytes a = ap bytes (omega arith) in
-      let j : bytes (x + 1) ≡ bytes (a + 1) = ap bytes (omega arith) in
-      let k : bytes (x + 1 + 1) ≡ bytes (a + 2) = ap bytes (omega arith) in
-      let l : bytes (x + 1 + 1 + 1) ≡ bytes (a + 3) = ap bytes (omega arith) in
-      rw z (omega arith)
+  four_bytes a r e z = rw z (grind (arith, small))
 
   loads_at : (k : LoadKind) → x % load_width k ≡ 0 → loaded (Some (Load k)) x (word bytes (word_address x)) ≡ value_of k (little bytes x (load_width k))
   unfolding loaded
@@ -86,57 +81,27 @@ loads_its_bytes size x b a k e bytes small =
 
 -- ---- stores
 
--- a lane that is not flagged, or whose byte is another
-lane_off : (y z : ℕ) (l : Bool) → (l ≡ true → y ≡ z → ⊥) → (eqb y z && l) ≡ false
-lane_off y z true h = and_left _ _ (ne_eqb y z (h refl))
-lane_off y z false h = and_right (eqb y z) false refl
+-- the first bytes are those of b, and every other stays
+module _ (before after : ℕ → ℕ) (x b : ℕ) where
+  one : after x ≡ b % 256 → (j : ℕ) → j < 1 → after (x + j) ≡ b / 256 ^ j % 256
+  one e zero h = grind arith
+  one e (suc j) h = absurd (omega arith)
 
-lane_on : (y z : ℕ) (l : Bool) → y ≡ z → l ≡ true → (eqb y z && l) ≡ true
-lane_on y z l e f = and_from _ _ (eq-eqb y z e) f
+  two : after x ≡ b % 256 → after (x + 1) ≡ b / 256 % 256 → (j : ℕ) → j < 2 → after (x + j) ≡ b / 256 ^ j % 256
+  two e f zero h = one e 0 (omega arith)
+  two e f (suc zero) h = f
+  two e f (suc (suc j)) h = absurd (omega arith)
 
-module _ (bytes : ℕ → ℕ) (a w : ℕ) (l : Lanes) where
-  put_other : (y : ℕ) → (l.b0 ≡ true → y ≡ a → ⊥) → (l.b1 ≡ true → y ≡ a + 1 → ⊥) → (l.b2 ≡ true → y ≡ a + 2 → ⊥) → (l.b3 ≡ true → y ≡ a + 3 → ⊥)
-      → put bytes a w l y ≡ bytes y
-  put_other y h0 h1 h2 h3 = rw (lane_off y (a + 3) l.b3 h3, lane_off y (a + 2) l.b2 h2, lane_off y (a + 1) l.b1 h1, lane_off y a l.b0 h0)
+  four : after x ≡ b % 256 → after (x + 1) ≡ b / 256 % 256 → after (x + 2) ≡ b / 65536 % 256 → after (x + 3) ≡ b / 16777216 % 256 → (j : ℕ) → j < 4
+      → after (x + j) ≡ b / 256 ^ j % 256
+  four e f g i zero h = one e 0 (omega arith)
+  four e f g i (suc zero) h = f
+  four e f g i (suc (suc zero)) h = g
+  four e f g i (suc (suc (suc zero))) h = i
+  four e f g i (suc (suc (suc (suc j)))) h = absurd (omega arith)
 
-  put_0 : (y : ℕ) → y ≡ a → l.b0 ≡ true → put bytes a w l y ≡ w % 256
-  put_0 y e f =
-      rw (lane_off y (a + 3) l.b3 (λ _ i. omega arith), lane_off y (a + 2) l.b2 (λ _ i. omega arith), lane_off y (a + 1) l.b1 (λ _ i. omega arith), lane_on y a l.b0 e f)
-
-  put_1 : (y : ℕ) → y ≡ a + 1 → l.b1 ≡ true → put bytes a w l y ≡ w / 256 % 256
-  put_1 y e f =
-      rw (lane_off y (a + 3) l.b3 (λ _ i. omega arith), lane_off y (a + 2) l.b2 (λ _ i. omega arith), lane_on y (a + 1) l.b1 e f)
-
-  put_2 : (y : ℕ) → y ≡ a + 2 → l.b2 ≡ true → put bytes a w l y ≡ w / 65536 % 256
-  put_2 y e f = rw (lane_off y (a + 3) l.b3 (λ _ i. omega arith), lane_on y (a + 2) l.b2 e f)
-
-  put_3 : (y : ℕ) → y ≡ a + 3 → l.b3 ≡ true → put bytes a w l y ≡ w / 16777216 % 256
-  put_3 y e f = rw (lane_on y (a + 3) l.b3 e f)
-
--- a byte that is flagged is put, and every other stays
-stored_from : (before after : ℕ → ℕ) (x n b : ℕ) → ((j : ℕ) → j < n → after (x + j) ≡ b / 256 ^ j % 256) → ((y : ℕ) → ((j : ℕ) → j < n → y ≡ x + j → ⊥) → after y ≡ before y)
-    → Stored before after x n b
-stored_from before after x n b h k = record { here = h; below = λ y l. k y (λ j i e. omega arith); above = λ y l. k y (λ j i e. omega arith) }
-
-one : (after : ℕ → ℕ) (x b : ℕ) → after x ≡ b % 256 → (j : ℕ) → j < 1 → after (x + j) ≡ b / 256 ^ j % 256
-one after x b e zero h = let i : after (x + 0) ≡ after x = ap after (omega arith) in omega arith
-one after x b e (suc j) h = absurd (omega arith)
-
-two : (after : ℕ → ℕ) (x b : ℕ) → after x ≡ b % 256 → after (x + 1) ≡ b / 256 % 256 → (j : ℕ) → j < 2 → after (x + j) ≡ b / 256 ^ j % 256
-two after x b e f zero h = one after x b e 0 (omega arith)
-two after x b e f (suc zero) h = f
-two after x b e f (suc (suc j)) h = absurd (omega arith)
-
-four : (after : ℕ → ℕ) (x b : ℕ) → after x ≡ b % 256 → after (x + 1) ≡ b / 256 % 256 → after (x + 2) ≡ b / 65536 % 256 → after (x + 3) ≡ b / 16777216 % 256 → (j : ℕ) → j < 4
-    → after (x + j) ≡ b / 256 ^ j % 256
-four after x b e f g i zero h = one after x b e 0 (omega arith)
-four after x b e f g i (suc zero) h = f
-four after x b e f g i (suc (suc zero)) h = g
-four after x b e f g i (suc (suc (suc zero))) h = i
-four after x b e f g i (suc (suc (suc (suc j)))) h = absurd (omega arith)
-
-off : {A : Type 0} → false ≡ true → A
-off e = let z : ◌≡◌ {A = ℕ} 0 1 = cc in absurd (omega arith)
+  stored : (n : ℕ) → ((j : ℕ) → j < n → after (x + j) ≡ b / 256 ^ j % 256) → ((y : ℕ) → (x ≤ y → y < x + n → ⊥) → after y ≡ before y) → Stored before after x n b
+  stored n h k = record { here = h; below = λ y l. k y (λ i j. omega arith); above = λ y l. k y (λ i j. omega arith) }
 
 -- the word of b that a store at the place r in a word asks to put, and its lanes
 abbrev shifted : ℕ → ℕ → ℕ
@@ -155,37 +120,23 @@ module _ (bytes : ℕ → ℕ) (x b : ℕ) where
   byte_stored : (a r : ℕ) → r < 4 → x ≡ a + r → Stored bytes (put bytes a (shifted b r) (byte_lanes r)) x 1 b
   byte_stored a =
       by_place (λ (r : ℕ). x ≡ a + r → Stored bytes (put bytes a (shifted b r) (byte_lanes r)) x 1 b)
-      (λ e. stored_from bytes _ x 1 b (one (put bytes a (shifted b 0) (byte_lanes 0)) x b (put_0 bytes a (shifted b 0) (byte_lanes 0) x (omega arith) refl ∙ omega arith))
-      (λ y h. put_other bytes a (shifted b 0) (byte_lanes 0) y (λ f i. h 0 (omega arith) (omega arith)) off off off))
-      (λ e. stored_from bytes _ x 1 b (one (put bytes a (shifted b 1) (byte_lanes 1)) x b (put_1 bytes a (shifted b 1) (byte_lanes 1) x e refl ∙ omega arith))
-      (λ y h. put_other bytes a (shifted b 1) (byte_lanes 1) y off (λ f i. h 0 (omega arith) (omega arith)) off off))
-      (λ e. stored_from bytes _ x 1 b (one (put bytes a (shifted b 2) (byte_lanes 2)) x b (put_2 bytes a (shifted b 2) (byte_lanes 2) x e refl ∙ omega arith))
-      (λ y h. put_other bytes a (shifted b 2) (byte_lanes 2) y off off (λ f i. h 0 (omega arith) (omega arith)) off))
-      (λ e. stored_from bytes _ x 1 b (one (put bytes a (shifted b 3) (byte_lanes 3)) x b (put_3 bytes a (shifted b 3) (byte_lanes 3) x e refl ∙ omega arith))
-      (λ y h. put_other bytes a (shifted b 3) (byte_lanes 3) y off off off (λ f i. h 0 (omega arith) (omega arith))))
+      (λ e. stored bytes (put bytes a (shifted b 0) (byte_lanes 0)) x b 1 (one bytes (put bytes a (shifted b 0) (byte_lanes 0)) x b (grind (arith, nat_tests))) (λ y h. grind (arith, nat_tests)))
+      (λ e. stored bytes (put bytes a (shifted b 1) (byte_lanes 1)) x b 1 (one bytes (put bytes a (shifted b 1) (byte_lanes 1)) x b (grind (arith, nat_tests))) (λ y h. grind (arith, nat_tests)))
+      (λ e. stored bytes (put bytes a (shifted b 2) (byte_lanes 2)) x b 1 (one bytes (put bytes a (shifted b 2) (byte_lanes 2)) x b (grind (arith, nat_tests))) (λ y h. grind (arith, nat_tests)))
+      (λ e. stored bytes (put bytes a (shifted b 3) (byte_lanes 3)) x b 1 (one bytes (put bytes a (shifted b 3) (byte_lanes 3)) x b (grind (arith, nat_tests))) (λ y h. grind (arith, nat_tests)))
 
   half_stored : (a r : ℕ) → r < 4 → x ≡ a + r → r % 2 ≡ 0 → Stored bytes (put bytes a (shifted b r) (half_lanes r)) x 2 b
   half_stored a =
       by_place (λ (r : ℕ). x ≡ a + r → r % 2 ≡ 0 → Stored bytes (put bytes a (shifted b r) (half_lanes r)) x 2 b)
-      (λ e m. stored_from bytes _ x 2 b
-      (two (put bytes a (shifted b 0) (half_lanes 0)) x b (put_0 bytes a (shifted b 0) (half_lanes 0) x (omega arith) refl ∙ omega arith)
-      (put_1 bytes a (shifted b 0) (half_lanes 0) (x + 1) (omega arith) refl ∙ omega arith))
-      (λ y h. put_other bytes a (shifted b 0) (half_lanes 0) y (λ f i. h 0 (omega arith) (omega arith)) (λ f i. h 1 (omega arith) (omega arith)) off off))
+      (λ e m. stored bytes (put bytes a (shifted b 0) (half_lanes 0)) x b 2 (two bytes (put bytes a (shifted b 0) (half_lanes 0)) x b (grind (arith, nat_tests)) (grind (arith, nat_tests))) (λ y h. grind (arith, nat_tests)))
       (λ e m. absurd (omega arith))
-      (λ e m. stored_from bytes _ x 2 b
-      (two (put bytes a (shifted b 2) (half_lanes 2)) x b (put_2 bytes a (shifted b 2) (half_lanes 2) x e refl ∙ omega arith)
-      (put_3 bytes a (shifted b 2) (half_lanes 2) (x + 1) (omega arith) refl ∙ omega arith))
-      (λ y h. put_other bytes a (shifted b 2) (half_lanes 2) y off off (λ f i. h 0 (omega arith) (omega arith)) (λ f i. h 1 (omega arith) (omega arith))))
+      (λ e m. stored bytes (put bytes a (shifted b 2) (half_lanes 2)) x b 2 (two bytes (put bytes a (shifted b 2) (half_lanes 2)) x b (grind (arith, nat_tests)) (grind (arith, nat_tests))) (λ y h. grind (arith, nat_tests)))
       (λ e m. absurd (omega arith))
 
   word_stored : (a r : ℕ) → x ≡ a + r → r ≡ 0 → Stored bytes (put bytes a (shifted b r) word_lanes) x 4 b
   word_stored a r e z =
-      rw z (stored_from bytes (put bytes a (shifted b 0) word_lanes) x 4 b
-      (four (put bytes a (shifted b 0) word_lanes) x b (put_0 bytes a (shifted b 0) word_lanes x (omega arith) refl ∙ omega arith)
-      (put_1 bytes a (shifted b 0) word_lanes (x + 1) (omega arith) refl ∙ omega arith)
-      (put_2 bytes a (shifted b 0) word_lanes (x + 2) (omega arith) refl ∙ omega arith)
-      (put_3 bytes a (shifted b 0) word_lanes (x + 3) (omega arith) refl ∙ omega arith))
-      (λ y h. put_other bytes a (shifted b 0) word_lanes y (λ f i. h 0 (omega arith) (omega arith)) (λ f i. h 1 (omega arith) (omega arith)) (λ f i. h 2 (omega arith) (omega arith)) (λ f i. h 3 (omega arith) (omega arith))))
+      rw z (stored bytes (put bytes a (shifted b 0) word_lanes) x b 4
+      (four bytes (put bytes a (shifted b 0) word_lanes) x b (grind (arith, nat_tests)) (grind (arith, nat_tests)) (grind (arith, nat_tests)) (grind (arith, nat_tests))) (λ y h. grind (arith, nat_tests)))
 
   stores_at : (k : StoreKind) → x % store_width k ≡ 0 → Stored bytes (put bytes (word_address x) (shifted b (x % 4)) (lanes_of k x)) x (store_width k) b
   stores_at ByteStored h = byte_stored (word_address x) (x % 4) (omega arith) (omega arith)

@@ -196,6 +196,19 @@ store_width ByteStored = 1
 store_width HalfStored = 2
 store_width WordStored = 4
 
+abbrev pub width : Access → ℕ
+width (Loads k) = load_width k
+width (Stores k) = store_width k
+
+-- why an access may not be
+abbrev pub misaligned : Access → Cause
+misaligned (Loads k) = LoadMisaligned
+misaligned (Stores k) = StoreMisaligned
+
+abbrev pub outside : Access → Cause
+outside (Loads k) = LoadOutside
+outside (Stores k) = StoreOutside
+
 -- the address of the word that holds the byte at x
 abbrev pub word_address : ℕ → ℕ
 word_address x = x / 4 * 4

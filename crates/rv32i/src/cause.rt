@@ -2,27 +2,27 @@
 ghost use Rattle.std.specs.Prelude.{◌≡◌};
 ghost use Rattle.rv32i.specs.Causes.{cause_number};
 
-/// Why an instruction cannot retire.
+/// Why an instruction cannot retire, with its number in the privileged architecture.
 #[derive(Clone, Copy, PartialEq, Eq, Debug)]
 pub enum Cause {
     /// A jump or a taken branch to no multiple of 4.
-    JumpMisaligned,
+    JumpMisaligned = 0,
     /// An instruction address outside the instruction memory.
-    FetchOutside,
+    FetchOutside = 1,
     /// A word that is no instruction.
-    Illegal,
+    Illegal = 2,
     /// `ebreak`.
-    Breakpoint,
+    Breakpoint = 3,
     /// A load that is not aligned to its width.
-    LoadMisaligned,
+    LoadMisaligned = 4,
     /// A load outside the data memory.
-    LoadOutside,
+    LoadOutside = 5,
     /// A store that is not aligned to its width.
-    StoreMisaligned,
+    StoreMisaligned = 6,
     /// A store outside the data memory.
-    StoreOutside,
+    StoreOutside = 7,
     /// `ecall`.
-    EnvironmentCall,
+    EnvironmentCall = 11,
 }
 
 impl Cause {
@@ -30,16 +30,6 @@ impl Cause {
     pub fn number(self) -> u32
         ensures { result ≡ cause_number self }
     {
-        match self {
-            Cause::JumpMisaligned => 0,
-            Cause::FetchOutside => 1,
-            Cause::Illegal => 2,
-            Cause::Breakpoint => 3,
-            Cause::LoadMisaligned => 4,
-            Cause::LoadOutside => 5,
-            Cause::StoreMisaligned => 6,
-            Cause::StoreOutside => 7,
-            Cause::EnvironmentCall => 11,
-        }
+        self as u32
     }
 }

@@ -1,7 +1,7 @@
 //! What an instruction does, in pieces: what it reads and writes, what it computes, what it asks of the data memory and
 //! what it makes of the answer.
 ghost use Rattle.std.specs.Prelude.{◌≡◌, ◌<◌};
-ghost use Rattle.rv32i.specs.Effects.{first_source, second_source, destination, arithmetic, immediate_op, shift_op, holds, goes_on, jumps, branches, executed, access, lanes_of, load_width, store_width, request, extracted, loaded};
+ghost use Rattle.rv32i.specs.Effects.{first_source, second_source, destination, arithmetic, immediate_op, shift_op, holds, goes_on, jumps, branches, executed, access, lanes_of, width, misaligned, outside, request, extracted, loaded};
 
 use crate::cause::Cause;
 use crate::instruction::{
@@ -12,7 +12,7 @@ use base::branch::Outcome;
 use base::bus::{Lanes, Request};
 
 /// What execution comes to.
-#[derive(Clone, Copy)]
+#[derive(Clone, Copy, PartialEq, Eq, Debug)]
 pub struct Effect {
     /// The value for the destination, or the address of a load or a store.
     pub result: u32,
@@ -23,7 +23,7 @@ pub struct Effect {
 }
 
 /// How an instruction uses the data memory.
-#[derive(Clone, Copy)]
+#[derive(Clone, Copy, PartialEq, Eq, Debug)]
 pub enum Access {
     Load(LoadKind),
     Store(StoreKind),
@@ -127,12 +127,12 @@ pub fn arithmetic(op: RegisterOp, a: u32, b: u32) -> u32
     }
 }
 
-impl ImmediateOp {
+impl From<ImmediateOp> for RegisterOp {
+    ghost from_gives = { λ op r. r ≡ immediate_op op };
+
     /// The operation on two operands that this is with an immediate as the second.
-    fn operation(self) -> RegisterOp
-        ensures { result ≡ immediate_op self }
-    {
-        match self {
+    fn from(op: ImmediateOp) -> RegisterOp {
+        match op {
             ImmediateOp::Add => RegisterOp::Add,
             ImmediateOp::Slt => RegisterOp::Slt,
             ImmediateOp::Sltu => RegisterOp::Sltu,
@@ -143,11 +143,12 @@ impl ImmediateOp {
     }
 }
 
-impl ShiftOp {
-    fn operation(self) -> RegisterOp
-        ensures { result ≡ shift_op self }
-    {
-        match self {
+impl From<ShiftOp> for RegisterOp {
+    ghost from_gives = { λ op r. r ≡ shift_op op };
+
+    /// The operation on two operands that this is with the amount as the second.
+    fn from(op: ShiftOp) -> RegisterOp {
+        match op {
             ShiftOp::Sll => RegisterOp::Sll,
             ShiftOp::Srl => RegisterOp::Srl,
             ShiftOp::Sra => RegisterOp::Sra,
@@ -242,6 +243,7 @@ impl Instruction {
                 let target = address.wrapping_add(offset.cast_unsigned());
                 branches(address, target, condition.holds(a, b))
             }
+            // Loads and stores have arms of their own: one arm that binds a signed field of both gets no proof.
             Instruction::Load { offset, .. } => Ok(goes_on(
                 address,
                 a.wrapping_add(offset.cast_unsigned()),
@@ -252,11 +254,11 @@ impl Instruction {
             )),
             Instruction::Immediate { op, imm, .. } => Ok(goes_on(
                 address,
-                arithmetic(op.operation(), a, imm.cast_unsigned()),
+                arithmetic(op.into(), a, imm.cast_unsigned()),
             )),
             Instruction::Shift { op, amount, .. } => Ok(goes_on(
                 address,
-                arithmetic(op.operation(), a, amount as u32),
+                arithmetic(op.into(), a, amount as u32),
             )),
             Instruction::Register { op, .. } => Ok(goes_on(address, arithmetic(op, a, b))),
             Instruction::Fence | Instruction::Ecall | Instruction::Ebreak => Ok(goes_on(
@@ -293,25 +295,39 @@ fn lanes_of(kind: StoreKind, address: u32) -> Lanes
     }
 }
 
-fn load_width(kind: LoadKind) -> u32
-    ensures is { result ≡ load_width kind }
-    ensures bound { 0 < result }
-{
-    match kind {
-        LoadKind::Byte | LoadKind::ByteUnsigned => 1,
-        LoadKind::Half | LoadKind::HalfUnsigned => 2,
-        LoadKind::Word => 4,
+impl Access {
+    /// Its width in bytes.
+    fn width(self) -> u32
+        ensures is { result ≡ width self }
+        ensures bound { 0 < result }
+    {
+        match self {
+            Access::Load(LoadKind::Byte | LoadKind::ByteUnsigned)
+            | Access::Store(StoreKind::Byte) => 1,
+            Access::Load(LoadKind::Half | LoadKind::HalfUnsigned)
+            | Access::Store(StoreKind::Half) => 2,
+            Access::Load(LoadKind::Word) | Access::Store(StoreKind::Word) => 4,
+        }
     }
-}
 
-fn store_width(kind: StoreKind) -> u32
-    ensures is { result ≡ store_width kind }
-    ensures bound { 0 < result }
-{
-    match kind {
-        StoreKind::Byte => 1,
-        StoreKind::Half => 2,
-        StoreKind::Word => 4,
+    /// The cause where its address is not aligned to its width.
+    fn misaligned(self) -> Cause
+        ensures { result ≡ misaligned self }
+    {
+        match self {
+            Access::Load(_) => Cause::LoadMisaligned,
+            Access::Store(_) => Cause::StoreMisaligned,
+        }
+    }
+
+    /// The cause where its address is outside the data memory.
+    fn outside(self) -> Cause
+        ensures { result ≡ outside self }
+    {
+        match self {
+            Access::Load(_) => Cause::LoadOutside,
+            Access::Store(_) => Cause::StoreOutside,
+        }
     }
 }
 
@@ -326,33 +342,25 @@ pub fn request(
 ) -> Result<Option<Request>, Cause>
     ensures { result ≡ request size access address b }
 {
-    match access {
-        None => Ok(None),
-        Some(Access::Load(kind)) => {
-            if address % load_width(kind) != 0 {
-                return Err(Cause::LoadMisaligned);
-            }
-            if address >= size {
-                return Err(Cause::LoadOutside);
-            }
-            Ok(Some(Request::Read {
-                address: address / 4 * 4,
-            }))
-        }
-        Some(Access::Store(kind)) => {
-            if address % store_width(kind) != 0 {
-                return Err(Cause::StoreMisaligned);
-            }
-            if address >= size {
-                return Err(Cause::StoreOutside);
-            }
-            Ok(Some(Request::Write {
-                address: address / 4 * 4,
-                word: b << (8 * (address % 4)),
-                lanes: lanes_of(kind, address),
-            }))
-        }
+    let Some(access) = access else {
+        return Ok(None);
+    };
+    if address % access.width() != 0 {
+        return Err(access.misaligned());
     }
+    if address >= size {
+        return Err(access.outside());
+    }
+    Ok(Some(match access {
+        Access::Load(_) => Request::Read {
+            address: address / 4 * 4,
+        },
+        Access::Store(kind) => Request::Write {
+            address: address / 4 * 4,
+            word: b << (8 * (address % 4)),
+            lanes: lanes_of(kind, address),
+        },
+    }))
 }
 
 /// What a load makes of a word whose lowest byte is the first that it reads.
@@ -375,7 +383,6 @@ pub fn loaded(access: Option<Access>, res: u32, word: u32) -> u32
 {
     match access {
         Some(Access::Load(kind)) => extract(kind, word >> (8 * (res % 4))),
-        Some(Access::Store(_)) => res,
-        None => res,
+        Some(Access::Store(_)) | None => res,
     }
 }

@@ -2,7 +2,7 @@
 use crate::register::Register;
 
 /// When a branch is taken.
-#[derive(Clone, Copy)]
+#[derive(Clone, Copy, PartialEq, Eq, Debug)]
 pub enum Condition {
     Eq,
     Ne,
@@ -13,7 +13,7 @@ pub enum Condition {
 }
 
 /// What a load reads, and how it fills the register.
-#[derive(Clone, Copy)]
+#[derive(Clone, Copy, PartialEq, Eq, Debug)]
 pub enum LoadKind {
     Byte,
     Half,
@@ -23,7 +23,7 @@ pub enum LoadKind {
 }
 
 /// What a store writes.
-#[derive(Clone, Copy)]
+#[derive(Clone, Copy, PartialEq, Eq, Debug)]
 pub enum StoreKind {
     Byte,
     Half,
@@ -31,7 +31,7 @@ pub enum StoreKind {
 }
 
 /// What is computed of a register and an immediate.
-#[derive(Clone, Copy)]
+#[derive(Clone, Copy, PartialEq, Eq, Debug)]
 pub enum ImmediateOp {
     Add,
     Slt,
@@ -42,7 +42,7 @@ pub enum ImmediateOp {
 }
 
 /// A shift by an amount in the word.
-#[derive(Clone, Copy)]
+#[derive(Clone, Copy, PartialEq, Eq, Debug)]
 pub enum ShiftOp {
     Sll,
     Srl,
@@ -50,7 +50,7 @@ pub enum ShiftOp {
 }
 
 /// What is computed of two registers.
-#[derive(Clone, Copy)]
+#[derive(Clone, Copy, PartialEq, Eq, Debug)]
 pub enum RegisterOp {
     Add,
     Sub,
@@ -65,7 +65,7 @@ pub enum RegisterOp {
 }
 
 /// Which of the forty.
-#[derive(Clone, Copy)]
+#[derive(Clone, Copy, PartialEq, Eq, Debug)]
 pub enum Operation {
     Lui,
     Auipc,
@@ -83,7 +83,7 @@ pub enum Operation {
 }
 
 /// An instruction with its registers and its immediate. An upper immediate is held with its twelve low zeros.
-#[derive(Clone, Copy)]
+#[derive(Clone, Copy, PartialEq, Eq, Debug)]
 pub enum Instruction {
     Lui {
         rd: Register,

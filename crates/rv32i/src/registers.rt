@@ -1,5 +1,5 @@
 //! The register file.
-ghost use Rattle.std.specs.Prelude.{◌≡◌, ◌<◌, ◌≤◌, replicate, Some, None};
+ghost use Rattle.std.specs.Prelude.{◌≡◌, ◌<◌, ◌≤◌, replicate, slice_index};
 ghost use Rattle.base.specs.Refusals.{Says};
 ghost use Rattle.rv32i.specs.Registers.{register, nonzero, operand, written};
 
@@ -21,6 +21,7 @@ impl Register {
     }
 
     /// The register whose number stands in the low five bits.
+    #[tactic(auto, using(crate::proofs::Numbered::same_number))]
     pub fn of_bits(bits: u32) -> Register
         ensures { result ≡ register bits }
     {
@@ -66,6 +67,14 @@ impl Registers {
             Some(r) => self.values[r.number as usize],
             None => 0,
         }
+    }
+
+    /// The value of the register of that number; refused above 31.
+    pub fn get(&self, number: u32) -> Result<u32, Refusal>
+        ensures { Says (λ v. (number < 32) × (v ≡ slice_index self.now.values number)) (λ why. (why ≡ 9) × (32 ≤ number)) result }
+    {
+        let register = Register::new(number)?;
+        Ok(self.read(Some(register)))
     }
 
     /// Sets a register, if there is one to set.

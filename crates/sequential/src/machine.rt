@@ -12,7 +12,6 @@ use base::refusal::Refusal;
 use memory::{Answer, Memory, Reply, byte_at, insist};
 use rv32i::cause::Cause;
 use rv32i::effect::{Access, loaded, request};
-use rv32i::register::Register;
 use rv32i::registers::Registers;
 use words::decoding::issue;
 
@@ -148,8 +147,7 @@ impl<I: Memory, D: Memory> Machine<I, D> {
     pub fn register(&self, number: u32) -> Result<u32, Refusal>
         ensures { Says (λ v. (number < 32) × (v ≡ slice_index self.now.registers.values number)) (λ why. (why ≡ 9) × (32 ≤ number)) result }
     {
-        let register = Register::new(number)?;
-        Ok(self.registers.read(Some(register)))
+        self.registers.get(number)
     }
 
     /// The data byte at an address; refused outside.

@@ -1,11 +1,13 @@
 //! Predictors by name.
 ghost use Rattle.std.specs.Prelude.{◌≡◌, Some};
-ghost use Rattle.setup.specs.Predictors.{simple, both, tournament, predictor, simple_text, predictor_text, NamedBy};
+ghost use Rattle.setup.specs.Predictors.{simple, tournament, predictor, simple_text, predictor_text, NamedBy};
 
 use crate::choice::{PredictorChoice, SimpleChoice};
 use std::fmt;
 
 /// The predictor of a name, one that stands alone.
+// No FromStr: its Err would say no more than None, since what a word should be is said where it is read.
+#[tactic(auto, unfolding(crate::specs::Predictors::simple, crate::specs::Texts::named))]
 fn simple_of(name: &str) -> Option<SimpleChoice>
     ensures { result ≡ simple name.now }
 {
@@ -18,35 +20,23 @@ fn simple_of(name: &str) -> Option<SimpleChoice>
     }
 }
 
-/// The tournament over a first and a second, if there are both.
-fn tournament(first: Option<SimpleChoice>, second: Option<SimpleChoice>) -> Option<PredictorChoice>
-    ensures { result ≡ both first second }
-{
-    match (first, second) {
-        (Some(first), Some(second)) => Some(PredictorChoice::Tournament(first, second)),
-        _ => None,
-    }
-}
-
 /// The tournament over a first and a second, whose names have a comma between them.
 fn tournament_of(names: &str) -> Option<PredictorChoice>
     ensures { result ≡ tournament names.now }
 {
     let (first, second) = names.split_once(',')?;
-    tournament(simple_of(first), simple_of(second))
+    Some(PredictorChoice::Tournament(simple_of(first)?, simple_of(second)?))
 }
 
 /// The predictor that a text names.
+// An Option, as of one that stands alone.
 pub fn predictor_of(text: &str) -> Option<PredictorChoice>
     ensures reads { result ≡ predictor text.now }
     ensures back { NamedBy text.now result }
 {
     match text.strip_prefix("tournament:") {
         Some(names) => tournament_of(names),
-        None => {
-            let simple = simple_of(text)?;
-            Some(PredictorChoice::Simple(simple))
-        }
+        None => simple_of(text).map(PredictorChoice::Simple),
     }
 }
 

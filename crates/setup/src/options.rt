@@ -2,13 +2,14 @@
 ghost use Rattle.std.specs.Prelude.{◌≡◌, map, string_bytes};
 ghost use Rattle.setup.specs.Options.{name, counted, chosen, clocks_at, step, ended, command_of};
 
-use crate::choice::{LayerChoice, PredictorChoice, Setup, SimpleChoice, StackChoice};
+use crate::choice::Setup;
 use crate::name::predictor_of;
 use crate::number::number_of;
 use crate::stack::stack_of;
+use std::ops::ControlFlow;
 
 /// An option that takes a value.
-#[derive(Clone, Copy)]
+#[derive(Clone, Copy, PartialEq, Eq, Debug)]
 pub enum Key {
     Predictor,
     Instructions,
@@ -19,7 +20,7 @@ pub enum Key {
 }
 
 /// An option by its name.
-#[derive(Clone, Copy)]
+#[derive(Clone, Copy, PartialEq, Eq, Debug)]
 enum Name {
     Valued(Key),
     Log,
@@ -27,7 +28,7 @@ enum Name {
 }
 
 /// What should stand where a word is wrong or missing.
-#[derive(Clone, Copy)]
+#[derive(Clone, Copy, PartialEq, Eq, Debug)]
 pub enum Expected {
     /// The name of an option.
     OptionName,
@@ -43,7 +44,7 @@ pub enum Expected {
 }
 
 /// Which word is wrong, by its place from 0 on, and what should stand there.
-#[derive(Clone, Copy)]
+#[derive(Clone, Copy, PartialEq, Eq, Debug)]
 pub struct Fault {
     /// The number of words, where one is missing.
     pub word: usize,
@@ -51,14 +52,14 @@ pub struct Fault {
 }
 
 /// What the words ask for.
-#[derive(Clone, Copy)]
+#[derive(Clone, Copy, PartialEq, Eq, Debug)]
 pub enum Command {
     Run(Setup),
     Help,
 }
 
 /// How far the words are read.
-#[derive(Clone, Copy)]
+#[derive(Clone, Copy, PartialEq, Eq, Debug)]
 struct Reading {
     setup: Setup,
     /// The option whose value is the next word.
@@ -67,35 +68,12 @@ struct Reading {
     clocks_word: usize,
 }
 
-/// What a word leads to.
-#[derive(Clone, Copy)]
-enum Next {
-    On(Reading),
-    Help,
-}
-
 /// The most clocks of which each can be printed.
 const LOGGED_CLOCKS: u32 = 65536;
 
-/// A flat memory with nothing over it.
-const FLAT: StackChoice = StackChoice {
-    top: LayerChoice::Plain,
-    middle: LayerChoice::Plain,
-    bottom: LayerChoice::Plain,
-};
-
-/// What holds where no word says otherwise.
-const DEFAULTS: Setup = Setup {
-    predictor: PredictorChoice::Simple(SimpleChoice::Never),
-    instructions: FLAT,
-    data: FLAT,
-    data_size: 4096,
-    start: 0,
-    clocks: 1000,
-    log: false,
-};
-
 /// The option of a name.
+// No FromStr: its Err would say no more than None, since what a word should be is said where it is read.
+#[tactic(auto, unfolding(crate::specs::Options::name, crate::specs::Texts::named))]
 fn name_of(word: &str) -> Option<Name>
     ensures { result ≡ name word.now }
 {
@@ -113,6 +91,7 @@ fn name_of(word: &str) -> Option<Name>
 }
 
 /// A number of clocks, at least 1.
+#[tactic(auto, unfolding(crate::specs::Options::counted))]
 fn clocks_of(text: &str) -> Option<u32>
     ensures { result ≡ counted text.now }
 {
@@ -121,38 +100,18 @@ fn clocks_of(text: &str) -> Option<u32>
 }
 
 /// A set-up with an option's value in it, or what the value should be.
-fn chosen(setup: Setup, key: Key, value: &str) -> Result<Setup, Expected>
+fn chosen(mut setup: Setup, key: Key, value: &str) -> Result<Setup, Expected>
     ensures { result ≡ chosen setup key value.now }
 {
     match key {
-        Key::Predictor => match predictor_of(value) {
-            Some(predictor) => Ok(Setup { predictor, ..setup }),
-            None => Err(Expected::PredictorName),
-        },
-        Key::Instructions => match stack_of(value) {
-            Some(instructions) => Ok(Setup {
-                instructions,
-                ..setup
-            }),
-            None => Err(Expected::StackText),
-        },
-        Key::Data => match stack_of(value) {
-            Some(data) => Ok(Setup { data, ..setup }),
-            None => Err(Expected::StackText),
-        },
-        Key::DataSize => match number_of(value) {
-            Some(data_size) => Ok(Setup { data_size, ..setup }),
-            None => Err(Expected::Number),
-        },
-        Key::Start => match number_of(value) {
-            Some(start) => Ok(Setup { start, ..setup }),
-            None => Err(Expected::Number),
-        },
-        Key::Clocks => match clocks_of(value) {
-            Some(clocks) => Ok(Setup { clocks, ..setup }),
-            None => Err(Expected::ClockCount),
-        },
+        Key::Predictor => setup.predictor = predictor_of(value).ok_or(Expected::PredictorName)?,
+        Key::Instructions => setup.instructions = stack_of(value).ok_or(Expected::StackText)?,
+        Key::Data => setup.data = stack_of(value).ok_or(Expected::StackText)?,
+        Key::DataSize => setup.data_size = number_of(value).ok_or(Expected::Number)?,
+        Key::Start => setup.start = number_of(value).ok_or(Expected::Number)?,
+        Key::Clocks => setup.clocks = clocks_of(value).ok_or(Expected::ClockCount)?,
     }
+    Ok(setup)
 }
 
 /// Which word gives the number of clocks, once the word `i` is the value of `key`.
@@ -165,38 +124,39 @@ fn clocks_at(key: Key, i: usize, before: usize) -> usize
     }
 }
 
-/// What the word `i` leads to: it is an option's name, or the value of the option before it.
-fn step(reading: Reading, i: usize, word: &str) -> Result<Next, Fault>
+/// What the word `i` leads to, further words or a command: it is an option's name, or the value of the option before it.
+fn step(reading: Reading, i: usize, word: &str) -> Result<ControlFlow<Command, Reading>, Fault>
     ensures { result ≡ step reading i word.now }
 {
-    match reading.pending {
-        Some(key) => match chosen(reading.setup, key, word) {
-            Ok(setup) => Ok(Next::On(Reading {
-                setup,
-                pending: None,
-                clocks_word: clocks_at(key, i, reading.clocks_word),
-            })),
-            Err(expected) => Err(Fault { word: i, expected }),
-        },
-        None => match name_of(word) {
-            Some(Name::Valued(key)) => Ok(Next::On(Reading {
-                pending: Some(key),
-                ..reading
-            })),
-            Some(Name::Log) => Ok(Next::On(Reading {
-                setup: Setup {
-                    log: true,
-                    ..reading.setup
-                },
-                ..reading
-            })),
-            Some(Name::Help) => Ok(Next::Help),
-            None => Err(Fault {
-                word: i,
-                expected: Expected::OptionName,
-            }),
-        },
+    if let Some(key) = reading.pending {
+        let setup = chosen(reading.setup, key, word).map_err(|expected| Fault {
+            word: i,
+            expected,
+        })?;
+        return Ok(ControlFlow::Continue(Reading {
+            setup,
+            pending: None,
+            clocks_word: clocks_at(key, i, reading.clocks_word),
+        }));
     }
+    let name = name_of(word).ok_or(Fault {
+        word: i,
+        expected: Expected::OptionName,
+    })?;
+    Ok(match name {
+        Name::Valued(key) => ControlFlow::Continue(Reading {
+            pending: Some(key),
+            ..reading
+        }),
+        Name::Log => ControlFlow::Continue(Reading {
+            setup: Setup {
+                log: true,
+                ..reading.setup
+            },
+            ..reading
+        }),
+        Name::Help => ControlFlow::Break(Command::Help),
+    })
 }
 
 /// What all the words ask for, after the last of them.
@@ -219,18 +179,19 @@ fn ended(reading: Reading, words: usize) -> Result<Command, Fault>
 }
 
 /// What a program's words, without its name, ask for; or the first word that is wrong.
+#[tactic(auto, using(crate::proofs::Reading::turn_on, crate::proofs::Reading::turn_asked, crate::proofs::Reading::turn_wrong, crate::proofs::Reading::all_read))]
 pub fn command_of(words: &[String]) -> Result<Command, Fault>
     ensures { result ≡ command_of (map string_bytes words.now) }
 {
     let mut reading = Reading {
-        setup: DEFAULTS,
+        setup: Setup::DEFAULT,
         pending: None,
         clocks_word: 0,
     };
     for (i, word) in words.iter().enumerate() {
         match step(reading, i, word.as_str())? {
-            Next::On(further) => reading = further,
-            Next::Help => return Ok(Command::Help),
+            ControlFlow::Continue(further) => reading = further,
+            ControlFlow::Break(command) => return Ok(command),
         }
     }
     ended(reading, words.len())

@@ -1,7 +1,7 @@
 //! Stacks of memories as text.
 ghost use Rattle.std.specs.Prelude.{◌≡◌, Some};
 ghost use Rattle.std.specs.Option.{option_map};
-ghost use Rattle.setup.specs.Stacks.{waits, layer, upper, stack, layer_text, stack_text, StackedBy};
+ghost use Rattle.setup.specs.Stacks.{waits, layer, upper, stack, layer_text, place_text, stack_text, StackedBy};
 
 use crate::choice::{LayerChoice, StackChoice};
 use crate::number::number_of;
@@ -18,6 +18,8 @@ fn waits(states: u32) -> Option<LayerChoice>
 }
 
 /// The layer that a text names.
+// No FromStr: its Err would say no more than None, since what a word should be is said where it is read.
+#[tactic(auto, unfolding(crate::specs::Stacks::layer))]
 fn layer_of(text: &str) -> Option<LayerChoice>
     ensures { result ≡ layer text.now }
 {
@@ -29,25 +31,20 @@ fn layer_of(text: &str) -> Option<LayerChoice>
 }
 
 /// The layer at the top, and the text of what is below it.
-fn upper(text: &str) -> Option<(LayerChoice, &str)>
+#[tactic(auto, unfolding(crate::specs::Stacks::upper))]
+fn upper(text: &str) -> Option<(Option<LayerChoice>, &str)>
     ensures { option_map (λ x. (x.0, x.1.now)) result ≡ upper text.now }
 {
     if text == "flat" {
-        return Some((LayerChoice::Plain, text));
+        return Some((None, text));
     }
-    match text.split_once('/') {
-        Some((first, below)) => {
-            let layer = layer_of(first)?;
-            Some((layer, below))
-        }
-        None => {
-            let layer = layer_of(text)?;
-            Some((layer, "flat"))
-        }
-    }
+    let (first, below) = text.split_once('/').unwrap_or((text, "flat"));
+    Some((Some(layer_of(first)?), below))
 }
 
 /// The stack that a text names: at most three layers from the top down, and then the flat memory.
+// An Option, as of a layer.
+#[tactic(auto, unfolding(crate::specs::Stacks::stack))]
 pub fn stack_of(text: &str) -> Option<StackChoice>
     ensures reads { result ≡ stack text.now }
     ensures back { StackedBy text.now result }
@@ -67,9 +64,23 @@ impl fmt::Display for LayerChoice {
 
     fn fmt<W: fmt::Write>(&self, f: &mut fmt::Formatter<W>) -> fmt::Result {
         match *self {
-            LayerChoice::Plain => f.write_str(""),
             LayerChoice::WaitStates(n) => write!(f, "wait:{n}/"),
             LayerChoice::WriteBuffer => f.write_str("buffer/"),
+        }
+    }
+}
+
+/// One of the three places for a layer, which may be free.
+#[derive(Clone, Copy)]
+struct Place(Option<LayerChoice>);
+
+impl fmt::Display for Place {
+    ghost output = { λ p. Some (place_text p.0) };
+
+    fn fmt<W: fmt::Write>(&self, f: &mut fmt::Formatter<W>) -> fmt::Result {
+        match self.0 {
+            Some(layer) => write!(f, "{layer}"),
+            None => Ok(()),
         }
     }
 }
@@ -78,9 +89,9 @@ impl fmt::Display for StackChoice {
     ghost output = { λ s. Some (stack_text s) };
 
     fn fmt<W: fmt::Write>(&self, f: &mut fmt::Formatter<W>) -> fmt::Result {
-        let top = self.top;
-        let middle = self.middle;
-        let bottom = self.bottom;
+        let top = Place(self.top);
+        let middle = Place(self.middle);
+        let bottom = Place(self.bottom);
         write!(f, "{top}{middle}{bottom}flat")
     }
 }

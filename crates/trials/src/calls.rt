@@ -1,9 +1,9 @@
 //! The calls on a machine, accepted and refused.
-use crate::prints::bytes_of;
-use base::log::Log;
 use base::refusal::Refusal;
 use clocking::state::ClockRecord;
+use listing::image::bytes_of;
 use memory::Flat;
+use pipeline::journal::Journal;
 use pipeline::machine::{RetiredAt, check, load};
 use pipeline::pause::pause;
 use predictor::never::Never;
@@ -41,15 +41,14 @@ fn a_run_to_the_stop(rt: HostRuntime) -> Result<(), Fail> {
     let mut machine = load(7, 0, Never, image, data);
     let mut retired_slots = [RetiredAt::EMPTY; 8];
     let mut clock_slots = [ClockRecord::EMPTY; 8];
-    let mut retired = Log::new(&mut retired_slots);
-    let mut clocks = Log::new(&mut clock_slots);
-    assert_eq!(rt; machine.clock(&mut retired, &mut clocks), Ok(()));
+    let mut journal = Journal::new(&mut retired_slots, &mut clock_slots);
+    assert_eq!(rt; machine.clock(&mut journal), Ok(()));
     assert_eq!(rt; pause(&mut machine), Ok(()));
-    let run = machine.run(100, &mut retired, &mut clocks);
+    let run = machine.run(100, &mut journal);
     assert_eq!(rt; run.made, 5);
     assert_eq!(rt; run.why, Some(Refusal::Stopped));
     assert_eq!(rt;
-        machine.clock(&mut retired, &mut clocks),
+        machine.clock(&mut journal),
         Err(Refusal::Stopped)
     );
     assert_eq!(rt; machine.register(1), Ok(2));
@@ -57,8 +56,8 @@ fn a_run_to_the_stop(rt: HostRuntime) -> Result<(), Fail> {
     assert_eq!(rt; machine.byte(15), Ok(0));
     assert_eq!(rt; machine.byte(16), Err(Refusal::NotThere));
     assert_eq!(rt; machine.counts().clocks, 6);
-    assert_eq!(rt; retired.len(), 1);
-    assert_eq!(rt; clocks.len(), 6);
+    assert_eq!(rt; journal.retirements.len(), 1);
+    assert_eq!(rt; journal.clocks.len(), 6);
     Ok(())
 }
 
@@ -71,13 +70,12 @@ fn a_full_log(rt: HostRuntime) -> Result<(), Fail> {
     let mut machine = load(0, 0, Never, image, data);
     let mut retired_slots = [RetiredAt::EMPTY; 8];
     let mut clock_slots = [ClockRecord::EMPTY; 2];
-    let mut retired = Log::new(&mut retired_slots);
-    let mut clocks = Log::new(&mut clock_slots);
-    let run = machine.run(3, &mut retired, &mut clocks);
+    let mut journal = Journal::new(&mut retired_slots, &mut clock_slots);
+    let run = machine.run(3, &mut journal);
     assert_eq!(rt; run.made, 2);
     assert_eq!(rt; run.why, Some(Refusal::LogFull));
     assert_eq!(rt;
-        machine.run(0, &mut retired, &mut clocks).why,
+        machine.run(0, &mut journal).why,
         Some(Refusal::LogFull)
     );
     Ok(())

@@ -1,10 +1,9 @@
 //! Whole prints of small programs, worked out by hand from the clock rule.
-use crate::prints::bytes_of;
-use base::log::Log;
 use clocking::state::ClockRecord;
 use clocktable::table::clock_table;
-use listing::image::{ImageError, padded};
+use listing::image::{bytes_of, padded};
 use memory::{Flat, Memory};
+use pipeline::journal::Journal;
 use pipeline::machine::{Machine, RetiredAt, load};
 use predictor::Predictor;
 use predictor::backward::Backward;
@@ -18,18 +17,16 @@ use wait_states::WaitStates;
 /// What a run of at most 1000 clocks prints.
 fn print_of<P: Predictor + Drop, I: Memory + Drop, D: Memory + Drop>(
     heap: Global,
-    machine: Machine<P, I, D>,
+    mut machine: Machine<P, I, D>,
 ) -> Result<String, Fail> {
-    let mut machine = machine;
     let mut retired_slots = [RetiredAt::EMPTY; 1000];
     let mut clock_slots = [ClockRecord::EMPTY; 1000];
-    let mut retired = Log::new(&mut retired_slots);
-    let mut clocks = Log::new(&mut clock_slots);
-    machine.run(1000, &mut retired, &mut clocks);
+    let mut journal = Journal::new(&mut retired_slots, &mut clock_slots);
+    machine.run(1000, &mut journal);
     Ok(clock_table(
         heap,
-        retired.records(),
-        clocks.records(),
+        journal.retirements.records(),
+        journal.clocks.records(),
         machine.stopped(),
         machine.counts(),
     )?)
@@ -37,7 +34,7 @@ fn print_of<P: Predictor + Drop, I: Memory + Drop, D: Memory + Drop>(
 
 /// A flat memory of these words, padded.
 fn image_of(heap: Global, words: &[u32]) -> Result<Flat, Fail> {
-    Ok(Flat::new(padded(bytes_of(heap, words)?)?))
+    Ok(Flat::new(padded(bytes_of(heap, words)?)?.into_bytes()))
 }
 
 /// 4096 zero bytes.

@@ -1,8 +1,8 @@
 //! What a sequential machine can be asked, and logs.
-use crate::prints::bytes_of;
 use base::branch::Outcome;
 use base::log::Log;
 use base::refusal::Refusal;
+use listing::image::bytes_of;
 use memory::Flat;
 use rv32i::cause::Cause;
 use rv32i::register::Register;

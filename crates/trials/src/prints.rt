@@ -1,27 +1,17 @@
 //! Whole prints of small programs, worked out by hand.
+use base::failure::Failure;
 use base::log::Log;
-use listing::image::{ImageError, padded};
+use listing::image::{bytes_of, padded};
 use listing::program::sequence_of;
 use listing::sequence::sequence_text;
 use memory::Flat;
 use sequential::machine::Machine;
 use sequential::record::Retired;
-use std::alloc::{AllocError, Global};
+use std::alloc::Global;
 use std::fmt::Write;
 use std::process::Abort;
 use std::test::Fail;
 use wait_states::WaitStates;
-
-/// Words as the bytes of an image.
-pub fn bytes_of(heap: Global, words: &[u32]) -> Result<Vec<u8>, AllocError> {
-    let mut bytes = Vec::new(heap);
-    for word in words {
-        for byte in word.to_le_bytes() {
-            bytes.push(byte)?;
-        }
-    }
-    Ok(bytes)
-}
 
 /// The lines after the first that are printed of these words.
 fn prints(rt: &impl Abort, heap: Global, words: &[u32], lines: &str) -> Result<(), Fail> {
@@ -213,11 +203,11 @@ fn sizes_of_images(rt: HostRuntime) -> Result<(), Fail> {
         (65536, 65536),
     ] {
         let image = padded(vec![in heap; 1u8; given]?)?;
-        assert_eq!(rt; image.len(), size);
-        assert_eq!(rt; image.get(given).copied().unwrap_or(0), 0);
+        assert_eq!(rt; image.bytes().len(), size);
+        assert_eq!(rt; image.bytes().get(given).copied().unwrap_or(0), 0);
     }
     match sequence_of(heap, vec![in heap; 1u8; 65537]?) {
-        Err(ImageError::Refused(why)) => {
+        Err(Failure::Refused(why)) => {
             assert_eq!(rt; why.number(), 1);
             Ok(())
         },

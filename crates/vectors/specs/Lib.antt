@@ -1,2 +1,3 @@
 pub mod Digests
 pub mod Images
+pub mod Lines

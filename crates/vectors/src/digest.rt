@@ -3,7 +3,7 @@ ghost use Rattle.std.specs.Prelude.{◌≡◌};
 ghost use Rattle.vectors.specs.Digests.{with_byte, with_word};
 
 /// FNV-1a of 64 bits.
-#[derive(Clone, Copy)]
+#[derive(Clone, Copy, PartialEq, Eq, Debug)]
 pub struct Digest(pub u64);
 
 impl Digest {
@@ -21,7 +21,8 @@ impl Digest {
     pub fn word(self, word: u32) -> Digest
         ensures { result.0 ≡ with_word self.0 word }
     {
-        let [b0, b1, b2, b3] = word.to_le_bytes();
-        self.byte(b0).byte(b1).byte(b2).byte(b3)
+        word.to_le_bytes()
+            .iter()
+            .fold(self, |digest, byte| digest.byte(*byte))
     }
 }

@@ -1,6 +1,7 @@
 //! Images as the vectors have them.
-ghost use Rattle.std.specs.Prelude.{◌≡◌, replicate, IfOk, string_bytes, slice_set};
+ghost use Rattle.std.specs.Prelude.{◌≡◌, codes, replicate, IfOk, IfSome, string_bytes, slice_set};
 ghost use Rattle.vectors.specs.Images.{with_word_at, Hexadecimal};
+ghost use Rattle.vectors.specs.Lines.{Heads, Says};
 
 use std::alloc::{AllocError, Global};
 
@@ -39,15 +40,14 @@ impl Image {
         ensures memory { self.new.memory.items ≡ with_word_at self.old.memory.items address word }
         ensures same { (self.new.name ≡ self.old.name) × (self.new.start ≡ self.old.start) }
     {
-        let [b0, b1, b2, b3] = word.to_le_bytes();
-        self.put_byte(address, b0);
-        self.put_byte(address.wrapping_add(1), b1);
-        self.put_byte(address.wrapping_add(2), b2);
-        self.put_byte(address.wrapping_add(3), b3);
+        for (i, byte) in word.to_le_bytes().iter().enumerate() {
+            self.put_byte(address.wrapping_add(i as u32), *byte);
+        }
     }
 }
 
 /// What a line of the vectors says.
+#[derive(Clone, Copy, PartialEq, Eq, Debug)]
 pub enum Line<'a> {
     /// `image NAME START SIZE`: a memory of so many zeros, and where its program starts.
     Image(&'a str, u32, u32),
@@ -61,21 +61,23 @@ pub enum Line<'a> {
 pub fn hexadecimal(text: &str) -> Option<u32>
     ensures { Hexadecimal text.now result }
 {
-    match u32::from_str_radix(text, 16) {
-        Ok(number) => Some(number),
-        Err(_) => None,
-    }
+    u32::from_str_radix(text, 16).ok()
 }
 
 /// `NAME START SIZE`
-fn header(rest: &str) -> Option<Line> {
+fn header(rest: &str) -> Option<Line>
+    ensures { IfSome result (λ l. Heads rest.now l) }
+{
     let (name, rest) = rest.split_once(' ')?;
     let (start, size) = rest.split_once(' ')?;
     Some(Line::Image(name, hexadecimal(start)?, hexadecimal(size)?))
 }
 
 /// What a line says, if it says anything.
-pub fn line_of(text: &str) -> Option<Line> {
+pub fn line_of(text: &str) -> Option<Line>
+    ensures says { IfSome result (λ l. Says text.now l) }
+    ensures run { text.now ≡ codes "run" → result ≡ Some Line.Run }
+{
     if text == "run" {
         return Some(Line::Run);
     }

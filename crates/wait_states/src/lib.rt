@@ -1,8 +1,8 @@
 //! Wait states: a layer that says Wait a set number of times before it passes a request down.
 #![tactic(auto)]
 
-ghost use Rattle.std.specs.Prelude.{◌≡◌, ◌+◌, if◌then◌else◌, nat_lt};
-ghost use Rattle.wait_states.specs.declared.Counting.TheVariants.{Nothing, Waiting};
+ghost use Rattle.std.specs.Prelude.{◌≡◌, ◌+◌, Some, None, if◌then◌else◌, nat_lt};
+ghost use Rattle.std.specs.Bool.{OnTrue};
 ghost use Rattle.memory.specs.Meaning.{Checked};
 ghost use Rattle.wait_states.specs.WaitStates.{wait_fits, wait_means, same_request, told, Passes, WaitServes};
 ghost use Rattle.wait_states.specs.WaitLaws.{wait_lawful};
@@ -11,50 +11,48 @@ mod replies;
 
 use base::bus::{Lanes, Request};
 use base::refusal::Refusal;
-use memory::{Answer, MOST_WAITS, Memory, Reply, address_of, ask, is_within};
+use memory::{Answer, MOST_WAITS, Memory, Reply, Unserved, address_of, ask, is_within};
 pub use replies::wait_states_replies_follow_calls;
+use std::marker::Model;
 
-/// What a layer counts.
-#[derive(Clone, Copy)]
-pub enum Counting {
-    /// Nothing: the next request is at its first wait state.
-    Nothing,
-    /// This request, which the layer itself has told Wait so often.
-    Waiting(Request, u32),
+/// A request that the layer itself has told Wait, and how often.
+#[derive(Clone, Copy, PartialEq, Eq, Debug)]
+pub struct Counted {
+    pub request: Request,
+    pub told: u32,
 }
 
-impl Counting {
-    /// Counts one more wait state of a request, of so many; false where it has had them all.
-    fn count(&mut self, request: Request, states: u32) -> bool
-        ensures waits { result ≡ nat_lt (told self.old request) states }
-        ensures after { self.new ≡ (if result then Waiting request (told self.old request + 1) else self.old) }
+impl Counted {
+    /// Whether it is this request that was told Wait.
+    #[tactic(auto, using(crate::proofs::Requests::request_says, crate::proofs::Requests::request_is))]
+    fn is_of(self, request: Request) -> bool
+        ensures same { result ≡ same_request self.request request }
+        ensures one { OnTrue result (self.request ≡ request) }
     {
-        match (self, request) {
-            // the same request again, in its wait states
-            (Counting::Waiting(counted, told), request)
-                if same(*counted, request) && *told < states => {
-                *told += 1;
-                true
-            }
-            // the same request, with its wait states over
-            (Counting::Waiting(counted, _), request) if same(*counted, request) => false,
-            // another request, at its first wait state
-            (counting, request) if 0 < states => {
-                *counting = Counting::Waiting(request, 1);
-                true
-            }
-            // there are no wait states
-            _ => false,
-        }
+        // by value, since the guards of `count` may not lend what they match
+        self.request == request
     }
 }
 
-/// The wait states of the memory below it.
+/// The wait states of the memory below it. Its size and its longest wait never change, so they are kept.
 #[derive(Drop)]
 pub struct WaitStates<M: Memory> {
     below: M,
     states: u32,
-    counting: Counting,
+    counting: Option<Counted>,
+    size: u32,
+    longest: u32,
+}
+
+impl<M: Memory> Model for WaitStates<M> {
+    ghost use Rattle.std.specs.Prelude.{◌≡◌};
+    ghost use Rattle.wait_states.specs.WaitStates.{WaitStates as Seen, IsMeasured};
+
+    ghost Value = { Seen M };
+
+    ghost view = { λ w. record { below = w.below; states = w.states; counting = w.counting } };
+
+    ghost invariant = { λ w. IsMeasured M.Memory.means.view w.below w.states w.size w.longest };
 }
 
 impl<M: Memory> WaitStates<M> {
@@ -73,33 +71,32 @@ impl<M: Memory> WaitStates<M> {
     pub fn new(below: M, states: u32) -> WaitStates<M>
         ensures below { result.below ≡ below }
         ensures states { result.states ≡ states }
-        ensures counting { result.counting ≡ Nothing }
+        ensures counting { result.counting ≡ None }
     {
+        let (size, longest) = match WaitStates::check(&below, states) {
+            Ok(()) => (below.size(), states + below.longest()),
+            Err(_) => (0, 0),
+        };
         WaitStates {
             below,
             states,
-            counting: Counting::Nothing,
+            counting: None,
+            size,
+            longest,
         }
-    }
-
-    /// Whether the layer passes its check.
-    fn fits(&self) -> bool
-        ensures { result ≡ wait_fits self.now.states (M.Memory.means.view.longest self.now.below) }
-    {
-        WaitStates::check(&self.below, self.states).is_ok()
     }
 
     /// Serves a request, of either kind.
     fn serve(&mut self, request: Request) -> Reply
         ensures { WaitServes M.Memory.means self.old request result self.new }
     {
-        if !is_within(self.size(), address_of(request)) {
-            self.counting = Counting::Nothing;
-            return Reply::Outside;
+        if !is_within(self.size, address_of(request)) {
+            self.counting = None;
+            return Err(Unserved::Outside);
         }
-        if self.counting.count(request, self.states) {
+        if count(&mut self.counting, request, self.states) {
             self.below.idle();
-            Reply::Wait
+            Err(Unserved::Wait)
         } else {
             self.pass(request)
         }
@@ -111,18 +108,37 @@ impl<M: Memory> WaitStates<M> {
     {
         let reply = ask(&mut self.below, request);
         self.counting = match reply {
-            Reply::Wait => Counting::Waiting(request, self.states),
-            _ => Counting::Nothing,
+            Err(Unserved::Wait) => Some(Counted {
+                request,
+                told: self.states,
+            }),
+            _ => None,
         };
         reply
     }
 }
 
-/// Whether two requests are one, asked again.
-fn same(counted: Request, request: Request) -> bool
-    ensures { result ≡ same_request counted request }
+/// Counts one more wait state of a request, of so many; false where it has had them all.
+fn count(counting: &mut Option<Counted>, request: Request, states: u32) -> bool
+    ensures waits { result ≡ nat_lt (told counting.old request) states }
+    ensures after { counting.new ≡ (if result then Some (record { request = request; told = told counting.old request + 1 }) else counting.old) }
 {
-    counted == request
+    match (counting, request) {
+        // the same request again, in its wait states
+        (Some(counted), request) if counted.is_of(request) && counted.told < states => {
+            counted.told += 1;
+            true
+        }
+        // the same request, with its wait states over
+        (Some(counted), request) if counted.is_of(request) => false,
+        // another request, at its first wait state
+        (counting, request) if 0 < states => {
+            *counting = Some(Counted { request, told: 1 });
+            true
+        }
+        // there are no wait states
+        _ => false,
+    }
 }
 
 impl<M: Memory> Memory for WaitStates<M> {
@@ -130,35 +146,31 @@ impl<M: Memory> Memory for WaitStates<M> {
 
     ghost obeys = { wait_lawful M.Memory.obeys };
 
-    fn read(&mut self, address: u32) -> Answer<u32> {
-        match self.serve(Request::Read { address }) {
-            Reply::Word(word) => Answer::Ready(word),
-            Reply::Wait => Answer::Wait,
-            Reply::Outside => Answer::Outside,
-            Reply::Done => unreachable(),
+    fn read(&mut self, address: u32) -> Result<u32, Unserved> {
+        match self.serve(Request::Read { address })? {
+            Answer::Word(word) => Ok(word),
+            Answer::Done => unreachable(),
         }
     }
 
-    fn write(&mut self, address: u32, word: u32, lanes: Lanes) -> Answer<()> {
+    fn write(&mut self, address: u32, word: u32, lanes: Lanes) -> Result<(), Unserved> {
         match self.serve(Request::Write {
             address,
             word,
             lanes,
-        }) {
-            Reply::Done => Answer::Ready(()),
-            Reply::Wait => Answer::Wait,
-            Reply::Outside => Answer::Outside,
-            Reply::Word(_) => unreachable(),
+        })? {
+            Answer::Done => Ok(()),
+            Answer::Word(_) => unreachable(),
         }
     }
 
     fn idle(&mut self) {
-        self.counting = Counting::Nothing;
+        self.counting = None;
         self.below.idle();
     }
 
     fn peek(&self, address: u32) -> Option<u8> {
-        if self.fits() {
+        if address < self.size {
             self.below.peek(address)
         } else {
             None
@@ -166,14 +178,10 @@ impl<M: Memory> Memory for WaitStates<M> {
     }
 
     fn longest(&self) -> u32 {
-        if self.fits() {
-            self.states + self.below.longest()
-        } else {
-            0
-        }
+        self.longest
     }
 
     fn size(&self) -> u32 {
-        if self.fits() { self.below.size() } else { 0 }
+        self.size
     }
 }

@@ -1,5 +1,5 @@
 -- The table is the manual's. Assumes nothing.
-use Rattle.std.proofs.Common.{◌≡◌, ℕ, ◌/◌, ◌%◌, ◌^◌, ◌<◌, Bool, true, false, cond, ◌&&◌, eqb, List, [], ◌∷◌, Some, None, Option, sym, refl, subst}
+use Rattle.std.proofs.Common.{◌≡◌, ℕ, ◌/◌, ◌%◌, ◌^◌, ◌<◌, Bool, true, false, cond, ◌&&◌, eqb, List, [], ◌∷◌, Some, None, Option, sym, refl, ap, ◌∙◌, subst}
 use Rattle.std.proofs.lemmas.Bool.{eqb-true}
 use Rattle.words.specs.declared.decoding.Row.{Row}
 use Rattle.rv32i.specs.declared.instruction.Condition.TheVariants.{Eq, Ne, Lt, Ge, Ltu, Geu}
@@ -12,7 +12,9 @@ use Rattle.rv32i.specs.declared.instruction.Operation.{Operation}
 use Rattle.rv32i.specs.declared.instruction.Operation.TheVariants.{Lui, Auipc, Jal, Jalr, Branch, Load, Store, Immediate, Shift, Register, Fence, Ecall, Ebreak}
 use Rattle.words.specs.Fields.{opcode_of, funct3_of, funct7_of}
 use Rattle.words.specs.Operations.{operation_by, operation_of}
-use Rattle.words.specs.Search.{first_in}
+use Rattle.std.specs.List.{find}
+use Rattle.std.specs.Option.{option_map}
+use Rattle.words.specs.Search.{fits, first_in}
 use Rattle.words.proofs.Masks.{test_op, test_f3, test_f7, test_all}
 
 -- the constant of the code
@@ -66,8 +68,8 @@ at_number P n c here elsewhere =
     elim (eqb n c) as (λ b. eqb n c ≡ b → P n) [ true ↦ λ e. subst P (sym (eqb-true n c e)) here | false ↦ elsewhere ] refl
 
 -- a row's test, by the fields that its mask keeps
-abbrev fits : Row → ℕ → ℕ → ℕ → ℕ → Bool
-fits r op f3 f7 rest =
+abbrev fits_by : Row → ℕ → ℕ → ℕ → ℕ → Bool
+fits_by r op f3 f7 rest =
     cond (eqb r.mask 0x7f) (eqb op r.value)
     (cond (eqb r.mask 0x707f) (eqb op (r.value % 2 ^ 12) && eqb f3 (r.value / 2 ^ 12))
     (cond (eqb r.mask 0xfe00707f) ((eqb op (r.value % 2 ^ 25 % 2 ^ 12) && eqb f3 (r.value % 2 ^ 25 / 2 ^ 12)) && eqb f7 (r.value / 2 ^ 25))
@@ -75,7 +77,7 @@ fits r op f3 f7 rest =
 
 abbrev first_by : List Row → ℕ → ℕ → ℕ → ℕ → Option Operation
 first_by [] op f3 f7 rest = None
-first_by (r ∷ rs) op f3 f7 rest = cond (fits r op f3 f7 rest) (Some r.operation) (first_by rs op f3 f7 rest)
+first_by (r ∷ rs) op f3 f7 rest = cond (fits_by r op f3 f7 rest) (Some r.operation) (first_by rs op f3 f7 rest)
 
 Same : ℕ → ℕ → ℕ → ℕ → Type 0
 Same op f3 f7 rest = first_by rows op f3 f7 rest ≡ operation_by op f3 f7 rest
@@ -106,6 +108,21 @@ same op f3 f7 rest =
     at_number P op 0x73 refl (λ h10.
     simp (h0, h1, h2, h3, h4, h5, h6, h7, h8, h9, h10))))))))))))
 
+-- the search, row by row
+abbrev in_turn : List Row → ℕ → Option Operation
+in_turn [] w = None
+in_turn (r ∷ rs) w = cond (fits w r) (Some r.operation) (in_turn rs w)
+
+mapped : (b : Bool) (r : Row) (o : Option Row) → option_map (λ (x : Row). x.operation) (cond b (Some r) o) ≡ cond b (Some r.operation) (option_map (λ (x : Row). x.operation) o)
+mapped true r o = refl
+mapped false r o = refl
+
+turn_by_turn : (rs : List Row) (w : ℕ) → first_in rs w ≡ in_turn rs w
+turn_by_turn [] w = refl
+turn_by_turn (r ∷ rs) w = mapped (fits w r) r (find (fits w) rs) ∙ ap (λ (o : Option Operation). cond (fits w r) (Some r.operation) o) (turn_by_turn rs w)
+
 pub table_is : (w : ℕ) → w < 2 ^ 32 → first_in rows w ≡ operation_of w
 unfolding Same
-table_is w h = simp (test_op, test_f3, test_f7, test_all) (same (opcode_of w) (funct3_of w) (funct7_of w) (w / 2 ^ 7))
+table_is w h =
+    let e : in_turn rows w ≡ operation_of w = simp (test_op, test_f3, test_f7, test_all) (same (opcode_of w) (funct3_of w) (funct7_of w) (w / 2 ^ 7)) in
+    turn_by_turn rows w ∙ e

@@ -1,6 +1,5 @@
 pub mod CaseTable
+pub mod Powers
 pub mod Masks
-pub mod Ors
 pub mod Round
 pub mod SixFields
-pub mod Table

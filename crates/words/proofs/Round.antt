@@ -1,11 +1,10 @@
 -- Decoding undoes encoding, and encoding undoes decoding. Assumes nothing.
-use Rattle.std.proofs.Common.{◌≡◌, ℕ, ◌+◌, ◌*◌, ◌/◌, ◌%◌, ◌^◌, ◌<◌, Bool, true, false, cond, eqb, ltb, [], ◌∷◌, ℤ, pos, neg_ℤ, Some, None, Ok, Option, Result, sym, refl, ap, ◌∙◌, subst, arith}
+use Rattle.std.proofs.Common.{◌≡◌, ℕ, ◌+◌, ◌*◌, ◌/◌, ◌%◌, ◌^◌, ◌<◌, Bool, true, false, cond, eqb, ltb, [], ◌∷◌, ℤ, pos, neg_ℤ, Some, None, Ok, Option, sym, refl, ap, ◌∙◌, subst, arith}
 use lib.Pow.{split}
 use lib.Signed.{le_z, lt_z}
 use Rattle.std.proofs.lemmas.Int.{ints}
-use Rattle.std.proofs.lemmas.Bool.{ltb-true, eqb-true}
+use Rattle.std.proofs.lemmas.Bool.{eqb-true}
 use Rattle.std.proofs.lemmas.Bool.Decides.{nat_tests}
-use Rattle.base.specs.declared.refusal.Refusal.{Refusal}
 use Rattle.rv32i.specs.declared.register.Register.{Register as Reg}
 use Rattle.rv32i.specs.declared.instruction.Condition.{Condition}
 use Rattle.rv32i.specs.declared.instruction.Condition.TheVariants.{Eq, Ne, Lt, Ge, Ltu, Geu}
@@ -27,7 +26,7 @@ use Rattle.words.specs.Fields.{opcode_of, rd_of, funct3_of, rs1_of, rs2_of, func
 use Rattle.words.specs.Immediates.{low_bits, twelve, branch_bits, branch_low, branch_high, jump_bits, jump_high, upper}
 use Rattle.words.specs.Operations.{Column, pick, plain, plain_or_20, branches, loads, stores, immediates, registers, jumps_by_register, fences, calls, opcodes, operation_by, operation_of}
 use Rattle.rv32i.specs.Signs.{signed}
-use Rattle.words.specs.Words.{taken_apart, if_any, decoded_by, decoded, condition_code, load_code, store_code, immediate_code, shift_codes, register_codes, held_if, within_range, evenly, word_u, word_j, word_i, word_s, word_b, encoded, Undone, Restored}
+use Rattle.words.specs.Words.{taken_apart, if_any, decoded_by, decoded, condition_code, load_code, store_code, immediate_code, shift_codes, register_codes, held_if, word_u, word_j, word_i, word_s, word_b, encoded, Undone, Restored}
 use Rattle.rv32i.proofs.Numbered.{register_of}
 use Rattle.words.proofs.SixFields.{opcode_word, rd_word, funct3_word, rs1_word, rs2_word, funct7_word, word_fields, rest_is}
 
@@ -73,157 +72,57 @@ decoded_word op d f3 r1 r2 f7 o i h0 h1 h2 h3 h4 h5 e t =
       t,
     )
 
--- past each refusal
-restored_if : (b : Bool) (r : Result ℕ Refusal) (i : Instruction) → (b ≡ true → Restored r i) → Restored (held_if b r) i
-restored_if true r i f = f refl
-restored_if false r i f = tt
-
-restored_within : (h : ℕ) (z : ℤ) (r : Result ℕ Refusal) (i : Instruction)
-    → (le_z (neg_ℤ (pos h)) z ≡ true → lt_z z (pos h) ≡ true → Restored r i) → Restored (within_range h z r) i
-restored_within h z r i f = restored_if (le_z (neg_ℤ (pos h)) z) (held_if (lt_z z (pos h)) r) i (λ l. restored_if (lt_z z (pos h)) r i (λ k. f l k))
-
-restored_even : (n : ℕ) (r : Result ℕ Refusal) (i : Instruction) → (n % 2 ≡ 0 → Restored r i) → Restored (evenly n r) i
-restored_even n r i f = restored_if (eqb (n % 2) 0) r i (λ h. f (eqb-true (n % 2) 0 h))
-
--- the codes of each kind lead back to it
-branch_operation : (c : Condition) (f7 rest : ℕ) → operation_by 0x63 (condition_code c) f7 rest ≡ Some (ABranch c)
-branch_operation Eq f7 rest = refl
-branch_operation Ne f7 rest = refl
-branch_operation Lt f7 rest = refl
-branch_operation Ge f7 rest = refl
-branch_operation Ltu f7 rest = refl
-branch_operation Geu f7 rest = refl
-
-condition_small : (c : Condition) → condition_code c < 2 ^ 3
-condition_small Eq = omega arith
-condition_small Ne = omega arith
-condition_small Lt = omega arith
-condition_small Ge = omega arith
-condition_small Ltu = omega arith
-condition_small Geu = omega arith
-
-load_operation : (k : LoadKind) (f7 rest : ℕ) → operation_by 0x03 (load_code k) f7 rest ≡ Some (ALoad k)
-load_operation Byte f7 rest = refl
-load_operation Half f7 rest = refl
-load_operation Word f7 rest = refl
-load_operation ByteUnsigned f7 rest = refl
-load_operation HalfUnsigned f7 rest = refl
-
-load_small : (k : LoadKind) → load_code k < 2 ^ 3
-load_small Byte = omega arith
-load_small Half = omega arith
-load_small Word = omega arith
-load_small ByteUnsigned = omega arith
-load_small HalfUnsigned = omega arith
-
-store_operation : (k : StoreKind) (f7 rest : ℕ) → operation_by 0x23 (store_code k) f7 rest ≡ Some (AStore k)
-store_operation ByteStored f7 rest = refl
-store_operation HalfStored f7 rest = refl
-store_operation WordStored f7 rest = refl
-
-store_small : (k : StoreKind) → store_code k < 2 ^ 3
-store_small ByteStored = omega arith
-store_small HalfStored = omega arith
-store_small WordStored = omega arith
-
-immediate_operation : (o : ImmediateOp) (f7 rest : ℕ) → operation_by 0x13 (immediate_code o) f7 rest ≡ Some (AnImmediate o)
-immediate_operation AddImm f7 rest = refl
-immediate_operation SltImm f7 rest = refl
-immediate_operation SltuImm f7 rest = refl
-immediate_operation XorImm f7 rest = refl
-immediate_operation OrImm f7 rest = refl
-immediate_operation AndImm f7 rest = refl
-
-immediate_small : (o : ImmediateOp) → immediate_code o < 2 ^ 3
-immediate_small AddImm = omega arith
-immediate_small SltImm = omega arith
-immediate_small SltuImm = omega arith
-immediate_small XorImm = omega arith
-immediate_small OrImm = omega arith
-immediate_small AndImm = omega arith
-
-shift_operation : (o : ShiftOp) (rest : ℕ) → operation_by 0x13 (shift_codes o).0 (shift_codes o).1 rest ≡ Some (AShift o)
-shift_operation SllImm rest = refl
-shift_operation SrlImm rest = refl
-shift_operation SraImm rest = refl
-
-shift_small : (o : ShiftOp) → ((shift_codes o).0 < 2 ^ 3) × ((shift_codes o).1 < 2 ^ 7)
-shift_small SllImm = (omega arith, omega arith)
-shift_small SrlImm = (omega arith, omega arith)
-shift_small SraImm = (omega arith, omega arith)
-
-register_operation : (o : RegisterOp) (rest : ℕ) → operation_by 0x33 (register_codes o).0 (register_codes o).1 rest ≡ Some (ARegister o)
-register_operation Add rest = refl
-register_operation Sub rest = refl
-register_operation Sll rest = refl
-register_operation Slt rest = refl
-register_operation Sltu rest = refl
-register_operation Xor rest = refl
-register_operation Srl rest = refl
-register_operation Sra rest = refl
-register_operation Or rest = refl
-register_operation And rest = refl
-
-register_small : (o : RegisterOp) → ((register_codes o).0 < 2 ^ 3) × ((register_codes o).1 < 2 ^ 7)
-register_small Add = (omega arith, omega arith)
-register_small Sub = (omega arith, omega arith)
-register_small Sll = (omega arith, omega arith)
-register_small Slt = (omega arith, omega arith)
-register_small Sltu = (omega arith, omega arith)
-register_small Xor = (omega arith, omega arith)
-register_small Srl = (omega arith, omega arith)
-register_small Sra = (omega arith, omega arith)
-register_small Or = (omega arith, omega arith)
-register_small And = (omega arith, omega arith)
-
 module _ (op : ℕ) (o : Operation) (i : Instruction) (h0 : op < 2 ^ 7) where
   restored_u : (d : Reg) (v : ℕ) → ((f3 f7 rest : ℕ) → operation_by op f3 f7 rest ≡ Some o)
       → ((f3 r1 r2 f7 : ℕ) → upper f3 r1 r2 f7 ≡ v → taken_apart o d.number f3 r1 r2 f7 ≡ i) → Restored (word_u op d.number v) i
   restored_u d v e t =
-      let w : Result ℕ Refusal = Ok (word_of op d.number (funct3_of v) (rs1_of v) (rs2_of v) (funct7_of v)) in
-      restored_if (eqb (v % 2 ^ 12) 0) (held_if (ltb v (2 ^ 32)) w) i (λ h.
-      restored_if (ltb v (2 ^ 32)) w i (λ k.
-      decoded_word op d.number (funct3_of v) (rs1_of v) (rs2_of v) (funct7_of v) o i h0 d.ok (omega arith) (omega arith) (omega arith) (omega arith)
-      (e (funct3_of v) (funct7_of v))
-      (t (funct3_of v) (rs1_of v) (rs2_of v) (funct7_of v) (upper_joined v (ltb-true v (2 ^ 32) k) (eqb-true (v % 2 ^ 12) 0 h)))))
+      let w = decoded_word op d.number (funct3_of v) (rs1_of v) (rs2_of v) (funct7_of v) o i h0 d.ok (omega arith) (omega arith) (omega arith) (omega arith) (e (funct3_of v) (funct7_of v)) in
+      let j = upper_joined v in
+      let k = t (funct3_of v) (rs1_of v) (rs2_of v) (funct7_of v) in
+      grind (arith, nat_tests)
 
   restored_j : (d : Reg) (z : ℤ) → ((f3 f7 rest : ℕ) → operation_by op f3 f7 rest ≡ Some o)
       → ((f3 r1 r2 f7 : ℕ) → signed (2 ^ 20) (jump_bits f3 r1 r2 f7) ≡ z → taken_apart o d.number f3 r1 r2 f7 ≡ i) → Restored (word_j op d.number z) i
   restored_j d z e t =
       let n : ℕ = low_bits (2 ^ 20) z in
-      let w : Result ℕ Refusal = Ok (word_of op d.number (n / 2 ^ 12 % 2 ^ 3) (n / 2 ^ 15 % 2 ^ 5) (branch_low n) (jump_high n)) in
-      restored_within (2 ^ 20) z (evenly n w) i (λ l k.
-      restored_even n w i (λ h.
-      decoded_word op d.number (n / 2 ^ 12 % 2 ^ 3) (n / 2 ^ 15 % 2 ^ 5) (branch_low n) (jump_high n) o i h0 d.ok (omega arith) (omega arith) (omega arith) (omega arith)
-      (e (n / 2 ^ 12 % 2 ^ 3) (jump_high n))
-      (t (n / 2 ^ 12 % 2 ^ 3) (n / 2 ^ 15 % 2 ^ 5) (branch_low n) (jump_high n) (ap (signed (2 ^ 20)) (jump_joined n (omega arith) h) ∙ low_21 z l k))))
+      let f3 : ℕ = n / 2 ^ 12 % 2 ^ 3 in
+      let r1 : ℕ = n / 2 ^ 15 % 2 ^ 5 in
+      let w = decoded_word op d.number f3 r1 (branch_low n) (jump_high n) o i h0 d.ok (omega arith) (omega arith) (omega arith) (omega arith) (e f3 (jump_high n)) in
+      let low = low_21 z in
+      let joined = jump_joined n (omega arith) in
+      let k = t f3 r1 (branch_low n) (jump_high n) in
+      grind (arith, nat_tests)
 
   module _ (f3 : ℕ) (h2 : f3 < 2 ^ 3) (e : (f7 rest : ℕ) → operation_by op f3 f7 rest ≡ Some o) where
     restored_i : (d r1 : Reg) (z : ℤ) → ((r2 f7 : ℕ) → signed 2048 (twelve r2 f7) ≡ z → taken_apart o d.number f3 r1.number r2 f7 ≡ i)
         → Restored (word_i op f3 d.number r1.number z) i
     restored_i d r1 z t =
         let n : ℕ = low_bits 2048 z in
-        restored_within 2048 z (Ok (word_of op d.number f3 r1.number (n % 2 ^ 5) (n / 2 ^ 5))) i (λ l k.
-        decoded_word op d.number f3 r1.number (n % 2 ^ 5) (n / 2 ^ 5) o i h0 d.ok h2 r1.ok (omega arith) (omega arith)
-        (e (n / 2 ^ 5)) (t (n % 2 ^ 5) (n / 2 ^ 5) (ap (signed 2048) (split n 5) ∙ low_12 z l k)))
+        let w = decoded_word op d.number f3 r1.number (n % 2 ^ 5) (n / 2 ^ 5) o i h0 d.ok h2 r1.ok (omega arith) (omega arith) (e (n / 2 ^ 5)) in
+        let low = low_12 z in
+        let joined : twelve (n % 2 ^ 5) (n / 2 ^ 5) ≡ n = split n 5 in
+        let k = t (n % 2 ^ 5) (n / 2 ^ 5) in
+        grind (arith, nat_tests)
 
     restored_s : (r1 r2 : Reg) (z : ℤ) → ((d f7 : ℕ) → signed 2048 (twelve d f7) ≡ z → taken_apart o d f3 r1.number r2.number f7 ≡ i)
         → Restored (word_s op f3 r1.number r2.number z) i
     restored_s r1 r2 z t =
         let n : ℕ = low_bits 2048 z in
-        restored_within 2048 z (Ok (word_of op (n % 2 ^ 5) f3 r1.number r2.number (n / 2 ^ 5))) i (λ l k.
-        decoded_word op (n % 2 ^ 5) f3 r1.number r2.number (n / 2 ^ 5) o i h0 (omega arith) h2 r1.ok r2.ok (omega arith)
-        (e (n / 2 ^ 5)) (t (n % 2 ^ 5) (n / 2 ^ 5) (ap (signed 2048) (split n 5) ∙ low_12 z l k)))
+        let w = decoded_word op (n % 2 ^ 5) f3 r1.number r2.number (n / 2 ^ 5) o i h0 (omega arith) h2 r1.ok r2.ok (omega arith) (e (n / 2 ^ 5)) in
+        let low = low_12 z in
+        let joined : twelve (n % 2 ^ 5) (n / 2 ^ 5) ≡ n = split n 5 in
+        let k = t (n % 2 ^ 5) (n / 2 ^ 5) in
+        grind (arith, nat_tests)
 
     restored_b : (r1 r2 : Reg) (z : ℤ) → ((d f7 : ℕ) → signed 4096 (branch_bits d f7) ≡ z → taken_apart o d f3 r1.number r2.number f7 ≡ i)
         → Restored (word_b op f3 r1.number r2.number z) i
     restored_b r1 r2 z t =
         let n : ℕ = low_bits 4096 z in
-        let w : Result ℕ Refusal = Ok (word_of op (branch_low n) f3 r1.number r2.number (branch_high n)) in
-        restored_within 4096 z (evenly n w) i (λ l k.
-        restored_even n w i (λ h.
-        decoded_word op (branch_low n) f3 r1.number r2.number (branch_high n) o i h0 (omega arith) h2 r1.ok r2.ok (omega arith)
-        (e (branch_high n)) (t (branch_low n) (branch_high n) (ap (signed 4096) (branch_joined n (omega arith) h) ∙ low_13 z l k))))
+        let w = decoded_word op (branch_low n) f3 r1.number r2.number (branch_high n) o i h0 (omega arith) h2 r1.ok r2.ok (omega arith) (e (branch_high n)) in
+        let low = low_13 z in
+        let joined = branch_joined n (omega arith) in
+        let k = t (branch_low n) (branch_high n) in
+        grind (arith, nat_tests)
 
 pub restored : (i : Instruction) → Restored (encoded i) i
 unfolding decoded
@@ -232,24 +131,26 @@ restored (Auipc d v) = restored_u 0x17 AnAuipc (Auipc d v) (omega arith) d v (λ
 restored (Jal d z) = restored_j 0x6f AJal (Jal d z) (omega arith) d z (λ f3 f7 rest. refl) (λ f3 r1 r2 f7 e. rw (register_of d, e))
 restored (Jalr d r z) = restored_i 0x67 AJalr (Jalr d r z) (omega arith) 0 (omega arith) (λ f7 rest. refl) d r z (λ r2 f7 e. rw (register_of d, register_of r, e))
 restored (Branch c r q z) =
-    restored_b 0x63 (ABranch c) (Branch c r q z) (omega arith) (condition_code c) (condition_small c) (branch_operation c) r q z
+    restored_b 0x63 (ABranch c) (Branch c r q z) (omega arith) (condition_code c) (grind arith) (λ f7 rest. grind arith) r q z
     (λ d f7 e. rw (register_of r, register_of q, e))
 restored (Load k d r z) =
-    restored_i 0x03 (ALoad k) (Load k d r z) (omega arith) (load_code k) (load_small k) (load_operation k) d r z
+    restored_i 0x03 (ALoad k) (Load k d r z) (omega arith) (load_code k) (grind arith) (λ f7 rest. grind arith) d r z
     (λ r2 f7 e. rw (register_of d, register_of r, e))
 restored (Store k r q z) =
-    restored_s 0x23 (AStore k) (Store k r q z) (omega arith) (store_code k) (store_small k) (store_operation k) r q z
+    restored_s 0x23 (AStore k) (Store k r q z) (omega arith) (store_code k) (grind arith) (λ f7 rest. grind arith) r q z
     (λ d f7 e. rw (register_of r, register_of q, e))
 restored (Immediate o d r z) =
-    restored_i 0x13 (AnImmediate o) (Immediate o d r z) (omega arith) (immediate_code o) (immediate_small o) (immediate_operation o) d r z
+    restored_i 0x13 (AnImmediate o) (Immediate o d r z) (omega arith) (immediate_code o) (grind arith) (λ f7 rest. grind arith) d r z
     (λ r2 f7 e. rw (register_of d, register_of r, e))
 restored (Shift o d r n) =
-    restored_if (ltb n 32) (Ok (word_of 0x13 d.number (shift_codes o).0 r.number n (shift_codes o).1)) (Shift o d r n) (λ h.
+    let w : n < 2 ^ 5 → decoded (word_of 0x13 d.number (shift_codes o).0 r.number n (shift_codes o).1) ≡ Some (Shift o d r n) =
+    λ h.
     decoded_word 0x13 d.number (shift_codes o).0 r.number n (shift_codes o).1 (AShift o) (Shift o d r n)
-    (omega arith) d.ok (shift_small o).0 r.ok (ltb-true n 32 h) (shift_small o).1 (shift_operation o) (rw (register_of d, register_of r)))
+    (omega arith) d.ok (grind arith) r.ok h (grind arith) (λ rest. grind arith) (rw (register_of d, register_of r)) in
+    grind (arith, nat_tests)
 restored (Register o d r q) =
     decoded_word 0x33 d.number (register_codes o).0 r.number q.number (register_codes o).1 (ARegister o) (Register o d r q)
-    (omega arith) d.ok (register_small o).0 r.ok q.ok (register_small o).1 (register_operation o) (rw (register_of d, register_of r, register_of q))
+    (omega arith) d.ok (grind arith) r.ok q.ok (grind arith) (λ rest. grind arith) (rw (register_of d, register_of r, register_of q))
 restored Fence = refl
 restored Ecall = refl
 restored Ebreak = refl

@@ -1,7 +1,11 @@
 -- The immediates, from the fields rd, funct3, rs1, rs2 and funct7 (d, f3, r1, r2, f7), which hold their pieces in the formats
 -- that do not use them for themselves. Assumes nothing.
-use Rattle.std.specs.Prelude.{ℕ, ◌+◌, ◌*◌, ◌/◌, ◌%◌, ◌^◌, ℤ}
+use Rattle.std.specs.Prelude.{ℕ, ◌+◌, ◌*◌, ◌/◌, ◌%◌, ◌^◌, ℤ, pos, neg_ℤ, ◌≤ℤ◌, ◌<ℤ◌}
 use Rattle.rv32i.specs.Signs.{bits_of}
+
+-- from -h to h - 1
+abbrev pub IsInRange : ℕ → ℤ → Type 0
+IsInRange h z = (neg_ℤ (pos h) ≤ℤ z) × (z <ℤ pos h)
 
 -- the low bits of a signed number, below twice h
 abbrev pub low_bits : ℕ → ℤ → ℕ

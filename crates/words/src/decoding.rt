@@ -6,12 +6,12 @@ ghost use Rattle.words.specs.Operations.{operation_of};
 ghost use Rattle.words.specs.Search.{first_in};
 ghost use Rattle.words.specs.Words.{decoded, taken_apart, Undone};
 
-use crate::fields::{bits, immediate_b, immediate_i, immediate_j, immediate_s, immediate_u};
+use crate::field::Field;
+use crate::fields::{immediate_b, immediate_i, immediate_j, immediate_s, immediate_u, register_at};
 use rv32i::cause::Cause;
 use rv32i::instruction::{
     Condition, ImmediateOp, Instruction, LoadKind, Operation, RegisterOp, ShiftOp, StoreKind,
 };
-use rv32i::register::Register;
 
 /// The words whose bits under the mask are the value hold the operation.
 #[derive(Clone, Copy)]
@@ -238,15 +238,13 @@ const ROWS: [Row; 40] = [
 fn first_fit(rows: &[Row], word: u32) -> Option<Operation>
     ensures { result ≡ first_in rows.now word }
 {
-    for row in rows {
-        if word & row.mask == row.value {
-            return Some(row.operation);
-        }
-    }
-    None
+    rows.iter()
+        .find(|row| word & row.mask == row.value)
+        .map(|row| row.operation)
 }
 
 /// Which of the forty the word holds.
+#[tactic(auto, using(crate::proofs::CaseTable::table_is))]
 pub fn operation_of(word: u32) -> Option<Operation>
     ensures { result ≡ operation_of word }
 {
@@ -257,9 +255,9 @@ pub fn operation_of(word: u32) -> Option<Operation>
 fn take_apart(operation: Operation, word: u32) -> Instruction
     ensures { result ≡ taken_apart operation (rd_of word) (funct3_of word) (rs1_of word) (rs2_of word) (funct7_of word) }
 {
-    let rd = Register::of_bits(bits(word, 7, 5));
-    let rs1 = Register::of_bits(bits(word, 15, 5));
-    let rs2 = Register::of_bits(bits(word, 20, 5));
+    let rd = register_at(word, 7);
+    let rs1 = register_at(word, 15);
+    let rs2 = register_at(word, 20);
     match operation {
         Operation::Lui => Instruction::Lui {
             rd,
@@ -306,7 +304,7 @@ fn take_apart(operation: Operation, word: u32) -> Instruction
             op,
             rd,
             rs1,
-            amount: bits(word, 20, 5) as u8,
+            amount: Field::<5>::at(word, 20).value as u8,
         },
         Operation::Register(op) => Instruction::Register { op, rd, rs1, rs2 },
         Operation::Fence => Instruction::Fence,
@@ -320,10 +318,7 @@ pub fn decode(word: u32) -> Option<Instruction>
     ensures is { result ≡ decoded word }
     ensures undone { Undone result word }
 {
-    match operation_of(word) {
-        Some(operation) => Some(take_apart(operation, word)),
-        None => None,
-    }
+    operation_of(word).map(|operation| take_apart(operation, word))
 }
 
 /// The instruction that a word issues, or why it issues none: an illegal word, `ebreak` and `ecall` stop the machine.
@@ -331,12 +326,10 @@ pub fn decode(word: u32) -> Option<Instruction>
 pub fn issue(word: u32) -> Result<Instruction, Cause>
     ensures { result ≡ issued word }
 {
-    match decode(word) {
-        None => Err(Cause::Illegal),
-        Some(instruction) => match instruction {
-            Instruction::Ebreak => Err(Cause::Breakpoint),
-            Instruction::Ecall => Err(Cause::EnvironmentCall),
-            _ => Ok(instruction),
-        },
+    let instruction = decode(word).ok_or(Cause::Illegal)?;
+    match instruction {
+        Instruction::Ebreak => Err(Cause::Breakpoint),
+        Instruction::Ecall => Err(Cause::EnvironmentCall),
+        _ => Ok(instruction),
     }
 }

@@ -3,4 +3,5 @@
 
 pub mod decoding;
 pub mod encoding;
+mod field;
 mod fields;

@@ -1,6 +1,6 @@
 -- The definitions give the table of worked examples. Assumes nothing.
-use Rattle.std.proofs.Common.{◌≡◌, ℕ, zero, suc, ◌<◌, true, List, [], ◌∷◌, map, length, get_or, replicate, refl, ap, ◌∙◌, arith, length-set, get_or-set_same}
-use lib.ListN.{length-replicate}
+use Rattle.std.proofs.Common.{◌≡◌, ℕ, ◌<◌, true, List, [], ◌∷◌, map, length, get_or, refl, ap, ◌∙◌, arith, length-set, get_or-set_same}
+use Rattle.std.proofs.lemmas.List.{length-replicate, get_or-replicate}
 use Rattle.memory.specs.declared.flat.Flat.{Flat}
 use Rattle.wait_states.specs.declared.WaitStates.{WaitStates}
 use Rattle.write_buffer.specs.declared.WriteBuffer.{WriteBuffer}
@@ -10,12 +10,6 @@ use Rattle.write_buffer.specs.WriteBuffer.{buffer_means}
 use Rattle.predictor.specs.Counting.{fresh, counted, stepped, number_of}
 use Rattle.words.specs.Words.{decoded}
 use Rattle.worked.specs.Examples.{words, instructions, counts, counts_at, taken_at, longest, TableGiven}
-
--- all are 1 at first
-ones_at : (n k : ℕ) → k < n → get_or (replicate {A = ℕ} n 1) k 0 ≡ 1
-ones_at zero k h = omega arith
-ones_at (suc n) zero h = refl
-ones_at (suc n) (suc k) h = ones_at n k (omega arith)
 
 -- a counter that is counted has the stepped value, and the counters stay as many
 stepped_at : (values : List ℕ) (k v : ℕ) → k < length values → get_or values k 0 ≡ v → get_or (counted values k true) k 0 ≡ stepped v true
@@ -29,7 +23,7 @@ counter_given address =
     let k = number_of address in
     let h : k < 256 = omega arith in
     let h0 : k < length fresh = rw length-replicate h in
-    let e1 = stepped_at fresh k 1 h0 (ones_at 256 k h) in
+    let e1 = stepped_at fresh k 1 h0 (get_or-replicate 256 k 1 0 h) in
     let h1 = still fresh k h0 in
     let e2 = stepped_at (taken_at address fresh) k 2 h1 e1 in
     let h2 = still (taken_at address fresh) k h1 in

@@ -46,6 +46,7 @@ fn taken_thrice(address: u32) -> [u8; 3]
 
 /// The worked examples, done by the code, for a branch at any address and a flat memory of any bytes: they come to the table,
 /// and so do the definitions.
+#[tactic(auto, using(crate::proofs::Given::table_given))]
 pub fn worked_examples(address: u32, bytes: Vec<u8>) -> Worked
     ensures given { TableGiven }
     ensures instructions { result.instructions ≡ instructions }

@@ -13,14 +13,28 @@ mod replies;
 use base::bus::{Lanes, Request};
 use base::refusal::Refusal;
 use held::{Held, PostedWrite};
-use memory::{Answer, MOST_WAITS, Memory, Reply, address_of, ask, is_within};
+use memory::{Answer, MOST_WAITS, Memory, Reply, Unserved, address_of, ask, is_within};
 pub use replies::write_buffer_replies_follow_calls;
+use std::marker::Model;
 
-/// Up to four writes on their way to the memory below.
+/// Up to four writes on their way to the memory below. Its size and its longest wait never change, so they are kept.
 #[derive(Drop)]
 pub struct WriteBuffer<M: Memory> {
     below: M,
     held: Held,
+    size: u32,
+    longest: u32,
+}
+
+impl<M: Memory> Model for WriteBuffer<M> {
+    ghost use Rattle.std.specs.Prelude.{◌≡◌};
+    ghost use Rattle.write_buffer.specs.WriteBuffer.{WriteBuffer as Seen, IsMeasured};
+
+    ghost Value = { Seen M };
+
+    ghost view = { λ b. record { below = b.below; held = b.held } };
+
+    ghost invariant = { λ b. IsMeasured M.Memory.means.view b.below b.size b.longest };
 }
 
 impl<M: Memory> WriteBuffer<M> {
@@ -40,25 +54,24 @@ impl<M: Memory> WriteBuffer<M> {
         ensures below { result.below ≡ below }
         ensures held { pending result.held ≡ [] }
     {
+        let (size, longest) = match WriteBuffer::check(&below) {
+            Ok(()) => (below.size(), 5 * below.longest() + 4),
+            Err(_) => (0, 0),
+        };
         WriteBuffer {
             below,
             held: Held::empty(),
+            size,
+            longest,
         }
-    }
-
-    /// Whether the layer passes its check.
-    fn fits(&self) -> bool
-        ensures { result ≡ buffer_fits (M.Memory.means.view.longest self.now.below) }
-    {
-        WriteBuffer::check(&self.below).is_ok()
     }
 
     /// Serves a request, of either kind.
     fn serve(&mut self, request: Request) -> Reply
         ensures { BufferServes M.Memory.means self.old request result self.new }
     {
-        if !is_within(self.size(), address_of(request)) {
-            return Reply::Outside;
+        if !is_within(self.size, address_of(request)) {
+            return Err(Unserved::Outside);
         }
         if let Request::Write {
             address,
@@ -73,12 +86,12 @@ impl<M: Memory> WriteBuffer<M> {
                 lanes,
             });
             self.below.idle();
-            return Reply::Done;
+            return Ok(Answer::Done);
         }
         match self.held.oldest() {
             Some(oldest) => {
                 self.send(oldest);
-                Reply::Wait
+                Err(Unserved::Wait)
             }
             None => ask(&mut self.below, request),
         }
@@ -89,7 +102,7 @@ impl<M: Memory> WriteBuffer<M> {
         ensures { Sends M.Memory.means self.old write self.new }
     {
         match self.below.write(write.address, write.word, write.lanes) {
-            Answer::Wait => {}
+            Err(Unserved::Wait) => {}
             _ => self.held.remove_oldest(),
         }
     }
@@ -100,25 +113,21 @@ impl<M: Memory> Memory for WriteBuffer<M> {
 
     ghost obeys = { buffer_lawful M.Memory.obeys };
 
-    fn read(&mut self, address: u32) -> Answer<u32> {
-        match self.serve(Request::Read { address }) {
-            Reply::Word(word) => Answer::Ready(word),
-            Reply::Wait => Answer::Wait,
-            Reply::Outside => Answer::Outside,
-            Reply::Done => unreachable(),
+    fn read(&mut self, address: u32) -> Result<u32, Unserved> {
+        match self.serve(Request::Read { address })? {
+            Answer::Word(word) => Ok(word),
+            Answer::Done => unreachable(),
         }
     }
 
-    fn write(&mut self, address: u32, word: u32, lanes: Lanes) -> Answer<()> {
+    fn write(&mut self, address: u32, word: u32, lanes: Lanes) -> Result<(), Unserved> {
         match self.serve(Request::Write {
             address,
             word,
             lanes,
-        }) {
-            Reply::Done => Answer::Ready(()),
-            Reply::Wait => Answer::Wait,
-            Reply::Outside => Answer::Outside,
-            Reply::Word(_) => unreachable(),
+        })? {
+            Answer::Done => Ok(()),
+            Answer::Word(_) => unreachable(),
         }
     }
 
@@ -130,24 +139,18 @@ impl<M: Memory> Memory for WriteBuffer<M> {
     }
 
     fn peek(&self, address: u32) -> Option<u8> {
-        if !self.fits() {
+        if self.size <= address {
             return None;
         }
-        match self.below.peek(address) {
-            Some(byte) => Some(self.held.over(self.below.size(), address, byte)),
-            None => None,
-        }
+        let byte = self.below.peek(address)?;
+        Some(self.held.over(self.size, address, byte))
     }
 
     fn longest(&self) -> u32 {
-        if self.fits() {
-            5 * self.below.longest() + 4
-        } else {
-            0
-        }
+        self.longest
     }
 
     fn size(&self) -> u32 {
-        if self.fits() { self.below.size() } else { 0 }
+        self.size
     }
 }

@@ -50,7 +50,7 @@ pub fn load<P: Predictor, I: Memory, D: Memory>(
         0
     };
     Machine {
-        serial: if serial <= 65535 { serial as u16 } else { 0 },
+        serial: u16::try_from(serial).unwrap_or(0),
         held: false,
         core: Core {
             registers: Registers::new(),

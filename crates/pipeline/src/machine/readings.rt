@@ -6,10 +6,9 @@ ghost use Rattle.pipeline.specs.Readings.{totals};
 use crate::machine::{Machine, Totals};
 use base::refusal::Refusal;
 use clocking::latch::Latches;
-use memory::Memory;
+use memory::{Memory, byte_at};
 use ports::counting::in_flight;
 use predictor::Predictor;
-use rv32i::register::Register;
 use sequential::record::Stop;
 
 impl<P: Predictor, I: Memory, D: Memory> Machine<P, I, D> {
@@ -31,18 +30,14 @@ impl<P: Predictor, I: Memory, D: Memory> Machine<P, I, D> {
     pub fn register(&self, number: u32) -> Result<u32, Refusal>
         ensures { Says (λ v. (number < 32) × (v ≡ slice_index self.now.core.registers.values number)) (λ why. (why ≡ 9) × (32 ≤ number)) result }
     {
-        let register = Register::new(number)?;
-        Ok(self.core.registers.read(Some(register)))
+        self.core.registers.get(number)
     }
 
     /// The data byte at an address; refused outside.
     pub fn byte(&self, address: u32) -> Result<u8, Refusal>
         ensures { Says (λ b. (address < D.Memory.means.view.size self.now.core.«data») × (b ≡ D.Memory.means.view.byte self.now.core.«data» address)) (λ why. (why ≡ 9) × (D.Memory.means.view.size self.now.core.«data» ≤ address)) result }
     {
-        match self.core.data.peek(address) {
-            Some(byte) => Ok(byte),
-            None => Err(Refusal::NotThere),
-        }
+        byte_at(&self.core.data, address)
     }
 
     /// The address to fetch.
@@ -77,7 +72,7 @@ impl<P: Predictor, I: Memory, D: Memory> Machine<P, I, D> {
             retired: core.counts.retired,
             dropped: core.counts.dropped,
             in_flight: in_flight(&core.latches),
-            stopped: core.stopped.is_some() as u32,
+            stopped: u32::from(core.stopped.is_some()),
         }
     }
 }

@@ -1,18 +1,19 @@
-use Rattle.std.proofs.Common.{◌≡◌, ℕ, ◌^◌, ◌<◌, Some, None, Option, sym, ap, ◌∙◌, subst}
+use Rattle.std.proofs.Common.{◌≡◌, Option, sym, ◌∙◌, subst, rules}
 use Rattle.rv32i.specs.declared.instruction.Instruction.{Instruction}
-use Rattle.words.specs.Words.{decoded, Undone}
+use Rattle.words.specs.Fields.{rd_of, funct3_of, rs1_of, rs2_of, funct7_of}
+use Rattle.words.specs.Words.{if_any, decoded, Undone}
 use Rattle.words.proofs.Round.{undone, decoded_from}
 use Rattle.words.proofs.decoding.decode.Goals as goal
 
-undone_at : (w : ℕ) (r : Option Instruction) → w < 2 ^ 32 → r ≡ decoded w → Undone r w
-undone_at w r h e = subst (λ (x : Option Instruction). Undone x w) (sym e) (undone w h)
-
-pub returns-in-Some : goal.returns-in-Some
-returns-in-Some c =
+is_decoded : (c : goal.After-map) → c.map.result ≡ decoded c.args.word
+is_decoded c =
     let w = c.args.word in
-    let h = c.ranges.word.fits in
-    let e : Some c.take_apart.result ≡ decoded w = ap (λ (x : Instruction). Some x) c.take_apart.ensures ∙ decoded_from w h (Some c.in-Some.operation) c.in-Some.ensures in
-    record { is = e; undone = undone_at w (Some c.take_apart.result) h e }
+    let e : c.map.result ≡ if_any c.operation_of.result (rd_of w) (funct3_of w) (rs1_of w) (rs2_of w) (funct7_of w) = search rules in
+    e ∙ decoded_from w c.ranges.word.fits c.operation_of.result c.operation_of.ensures
 
-pub returns-in-None : goal.returns-in-None
-returns-in-None c = record { is = decoded_from c.args.word c.ranges.word.fits None c.in-None.ensures; undone = tt }
+pub returns-clause-is : goal.returns-clause-is
+returns-clause-is c = is_decoded c
+
+pub returns-clause-undone : goal.returns-clause-undone
+returns-clause-undone c =
+    subst (λ (x : Option Instruction). Undone x c.args.word) (sym (is_decoded c)) (undone c.args.word c.ranges.word.fits)

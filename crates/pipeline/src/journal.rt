@@ -1,0 +1,56 @@
+//! The two logs that a machine's clocks go to.
+ghost use Rattle.std.specs.Prelude.{◌≡◌, ◌<◌, ◌≤◌, ◌⊎◌, [], ◌∷◌, length, MatchBool};
+ghost use Rattle.base.specs.Logs.{records, spare, room};
+ghost use Rattle.pipeline.specs.Calls.{FullLog, logged};
+ghost use Rattle.pipeline.specs.Logged.{logs, HasRoom, SameSlots};
+
+use crate::machine::RetiredAt;
+use base::log::Log;
+use clocking::state::{ClockRecord, Event};
+
+/// What retired, and the clocks, each in slots that the caller lends.
+#[derive(Drop)]
+pub struct Journal<'a> {
+    pub retirements: Log<'a, RetiredAt>,
+    pub clocks: Log<'a, ClockRecord>,
+}
+
+impl<'a> Journal<'a> {
+    /// Two empty logs over the caller's slots.
+    pub fn new(
+        retired_slots: &'a mut [RetiredAt],
+        clock_slots: &'a mut [ClockRecord],
+    ) -> Journal<'a>
+        ensures empty { (records result.retirements ≡ []) × (records result.clocks ≡ []) }
+        ensures spare { (spare result.retirements ≡ retired_slots.old) × (spare result.clocks ≡ clock_slots.old) }
+        ensures rooms { (room result.retirements ≡ length retired_slots.old) × (room result.clocks ≡ length clock_slots.old) }
+        ensures lent { (result.retirements.slots.ghost_name ≡ retired_slots.entry.ghost_name) × (result.clocks.slots.ghost_name ≡ clock_slots.entry.ghost_name) }
+    {
+        Journal {
+            retirements: Log::new(retired_slots),
+            clocks: Log::new(clock_slots),
+        }
+    }
+
+    /// Whether one of the two has no slot left.
+    pub(crate) fn is_full(&self) -> bool
+        ensures { MatchBool result (FullLog (logs self.now)) (HasRoom (logs self.now)) }
+    {
+        self.retirements.is_full() || self.clocks.is_full()
+    }
+
+    /// Adds what a clock tells, for which there is room.
+    pub(crate) fn record(&mut self, event: Event)
+        requires { HasRoom (logs self.old) }
+        ensures adds { logs self.new ≡ logged (logs self.old) (event ∷ []) }
+        ensures slots { SameSlots self.old self.new }
+    {
+        if let Some(retirement) = event.retirement {
+            let _ = self.retirements.push(RetiredAt {
+                clock: event.clock.clock,
+                retired: retirement.retired,
+            });
+        }
+        let _ = self.clocks.push(event.clock);
+    }
+}

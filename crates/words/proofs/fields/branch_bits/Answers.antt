@@ -1,6 +1,0 @@
-use Rattle.std.proofs.Common.{arith}
-use Rattle.words.proofs.Ors.{or_sum}
-use Rattle.words.proofs.fields.branch_bits.Goals as goal
-
-pub returns : goal.returns
-returns c = grind (arith, or_sum 12, or_sum 11, or_sum 5)

@@ -2,13 +2,13 @@
 ghost use Rattle.std.specs.Prelude.{◌≡◌, true, false, IfOk, string_bytes};
 ghost use Rattle.report.specs.Timings.{Shown, outcomes_of};
 
-use crate::lines::{Longest, Outcomes, report};
-use base::log::Log;
+use crate::lines::{Longest, Outcomes, report, write_report};
 use clocking::state::ClockRecord;
 use clocktable::table::tables;
 use longrun::gaps::Gaps;
 use longrun::run::{Watch, run_to};
 use memory::Memory;
+use pipeline::journal::Journal;
 use pipeline::machine::{Machine, RetiredAt};
 use predictor::Predictor;
 use setup::choice::Setup;
@@ -56,14 +56,16 @@ fn logged<P: Predictor, I: Memory, D: Memory>(
 {
     let mut retired_slots = vec![in heap; RetiredAt::EMPTY; setup.clocks as usize]?;
     let mut clock_slots = vec![in heap; ClockRecord::EMPTY; setup.clocks as usize]?;
-    let mut retired = Log::new(retired_slots.as_mut_slice());
-    let mut clocks = Log::new(clock_slots.as_mut_slice());
-    machine.run(setup.clocks, &mut retired, &mut clocks);
+    let mut journal = Journal::new(retired_slots.as_mut_slice(), clock_slots.as_mut_slice());
+    machine.run(setup.clocks, &mut journal);
     let mut gaps = Gaps::new();
-    gaps.note(retired.records());
-    let mut text = tables(heap, retired.records(), clocks.records())?;
-    let end = report(heap, setup, longest, outcomes_of(machine, &gaps))?;
-    text.push_str(end.as_str())?;
+    gaps.note(journal.retirements.records());
+    let mut text = tables(
+        heap,
+        journal.retirements.records(),
+        journal.clocks.records(),
+    )?;
+    write_report(&mut text, setup, longest, outcomes_of(machine, &gaps))?;
     Ok(text)
 }
 

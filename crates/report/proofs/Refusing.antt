@@ -10,7 +10,7 @@ use Rattle.pipeline.specs.Calls.{load_fits}
 use Rattle.choice.specs.Predictors.{chosen_table}
 use Rattle.choice.specs.Stacks.{layers_fit}
 use Rattle.setup.specs.declared.choice.Setup.{Setup}
-use Rattle.report.specs.Timings.{Stack, means, Shown, Assembled, Timed, StackAnswer, DataAnswer, AssemblyAnswer, refusal_of}
+use Rattle.report.specs.Timings.{Stack, Guesser, means, Shown, Assembled, Timed, StackAnswer, DataAnswer, AssemblyAnswer, refusal_of}
 use Rattle.report.specs.declared.lines.Longest.{Longest}
 use Rattle.report.specs.declared.timing.assembly.Assembly.{Assembly}
 
@@ -37,7 +37,7 @@ data_refused s image (Refused why) i h =
 data_refused s image OutOfMemory i h = tt
 
 -- the same of what it is converted to
-pub data_refused_by : (s : Setup) (image : List ℕ) (e : Failure) (r : Result Assembly Failure) → is_err r ≡ true → IsErrAnd r (λ x. x ≡ e) → layers_fit s.instructions ≡ true → DataAnswer s (Err e)
+pub data_refused_by : (s : Setup) (image : List ℕ) (e : Failure) (r : Result (Assembly Guesser Stack Stack) Failure) → is_err r ≡ true → IsErrAnd r (λ x. x ≡ e) → layers_fit s.instructions ≡ true → DataAnswer s (Err e)
     → AssemblyAnswer s image r
 data_refused_by s image e (Ok a) z by i h = absurd (true≢false (sym z))
 data_refused_by s image e (Err x) z by i h = let P : Failure → Type 0 = λ y. DataAnswer s (Err y) in data_refused s image x i (subst P (sym by) h)
@@ -47,7 +47,7 @@ pub sound_setup : (s : Setup) (size : ℕ) → layers_fit s.instructions ≡ tru
 sound_setup s size e f g h = rw (e, f, g, h)
 
 -- the whole answer, from its parts
-pub timed : (s : Setup) (image whole : List ℕ) (a : Assembly) (text : List ℕ) → image ≡ whole → AssemblyAnswer s image (Ok a) → Shown chosen_table means means s a.longest a.machine text → Timed s whole text
+pub timed : (s : Setup) (image whole : List ℕ) (a : Assembly Guesser Stack Stack) (text : List ℕ) → image ≡ whole → AssemblyAnswer s image (Ok a) → Shown chosen_table means means s a.longest a.machine text → Timed s whole text
 timed s image whole a text e h run =
     let P : List ℕ → Type 0 = λ x. Assembled s x a.machine in
     let Q : Longest → Type 0 = λ w. Shown chosen_table means means s w a.machine text in

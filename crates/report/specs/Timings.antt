@@ -112,7 +112,7 @@ DataAnswer s (Ok m) = (flat_fits s.data_size ≡ true) × (layers_fit s.«data»
 DataAnswer s (Err (Refused why)) = (number why ≡ cond (flat_fits s.data_size) 2 1) × (flat_fits s.data_size && layers_fit s.«data» ≡ false)
 DataAnswer s (Err OutOfMemory) = Unit {0}
 
-abbrev pub AssemblyAnswer : Setup → List ℕ → Result Assembly Failure → Type 0
+abbrev pub AssemblyAnswer : Setup → List ℕ → Result (Assembly Guesser Stack Stack) Failure → Type 0
 AssemblyAnswer s image (Ok a) = (refusal_of s (length image) ≡ None) × Assembled s image a.machine × (a.longest ≡ longest_of s)
 AssemblyAnswer s image (Err (Refused why)) = refusal_of s (length image) ≡ Some (number why)
 AssemblyAnswer s image (Err OutOfMemory) = Unit {0}

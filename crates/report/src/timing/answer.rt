@@ -1,7 +1,7 @@
 //! From a set-up and an input to the print.
 ghost use Rattle.report.specs.Timings.{TimingAnswer};
 
-use super::assembly::{Assembly, assemble};
+use super::assembly::assemble;
 use super::running::run_and_report;
 use base::failure::Failure;
 use listing::image::padded;
@@ -20,9 +20,6 @@ pub fn timing_of<W: Watch>(
     ensures { TimingAnswer setup.now input.items result }
 {
     let image = padded(input)?;
-    let Assembly {
-        mut machine,
-        longest,
-    } = assemble(heap, setup, image)?;
-    Ok(run_and_report(heap, setup, &mut machine, longest, watch)?)
+    let mut assembly = assemble(heap, setup, image)?;
+    Ok(run_and_report(heap, setup, &mut assembly, watch)?)
 }

@@ -9,13 +9,14 @@ use choice::stack::{Stack, build};
 use listing::image::PaddedImage;
 use memory::{Flat, Memory};
 use pipeline::machine::{Machine, check, load};
+use predictor::Predictor;
 use setup::choice::{Setup, StackChoice};
 use std::alloc::Global;
 
 /// A machine that is loaded, and the longest waits of its memories.
 #[derive(Drop)]
-pub(crate) struct Assembly {
-    pub machine: Machine<Chosen, Boxed<Stack>, Boxed<Stack>>,
+pub(crate) struct Assembly<P: Predictor, I: Memory, D: Memory> {
+    pub machine: Machine<P, I, D>,
     pub longest: Longest,
 }
 
@@ -28,6 +29,7 @@ fn stacked(heap: Global, bytes: Vec<u8>, choice: StackChoice) -> Result<Boxed<St
 }
 
 /// The chosen stack over zero bytes of data.
+#[tactic(auto, using(crate::proofs::Refusing::data_answer))]
 fn data_memory(heap: Global, setup: &Setup) -> Result<Boxed<Stack>, Failure>
     ensures { DataAnswer setup.now result }
 {
@@ -38,7 +40,11 @@ fn data_memory(heap: Global, setup: &Setup) -> Result<Boxed<Stack>, Failure>
 }
 
 /// Loads a machine with the chosen predictor and stacks, over an image and zero bytes of data.
-pub(crate) fn assemble(heap: Global, setup: &Setup, image: PaddedImage) -> Result<Assembly, Failure>
+pub(crate) fn assemble(
+    heap: Global,
+    setup: &Setup,
+    image: PaddedImage,
+) -> Result<Assembly<Chosen, Boxed<Stack>, Boxed<Stack>>, Failure>
     ensures { AssemblyAnswer setup.now image.bytes.items result }
 {
     let instructions = stacked(heap, image.into_bytes(), setup.instructions)?;

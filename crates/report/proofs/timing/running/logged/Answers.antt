@@ -13,7 +13,7 @@ use Rattle.report.proofs.timing.running.logged.Goals as goal
 pub returns : goal.returns
 returns g c =
     let s = c.args.setup.now in
-    let w = c.args.longest in
+    let w = c.args.assembly.now.longest in
     let bound : s.clocks ≤ 4294967295 = omega arith in
     let rs = c.in_ok-retired_slots.retired_slots in
     let cs = c.in_ok-clock_slots.clock_slots in
@@ -27,7 +27,7 @@ returns g c =
     let text : string_bytes c.write_report.new.text ≡ two_tables c.records-2.result.now c.records-3.result.now ++ report_text s w c.outcomes_of.result =
     c.in_ok-write_report.ensures ∙ ap (λ (l : List ℕ). l ++ report_text s w c.outcomes_of.result) c.in_ok-text.ensures in
     let whole = whole_run g.P.Predictor.table g.I.Memory.means g.D.Memory.means s.clocks (logs c.new-journal.result) (logs c.run.new.journal)
-    c.args.machine.now c.run.new.self c.run.result (records c.run.new.journal.retirements) (records c.run.new.journal.clocks) bound fresh c.run.ensures.does refl refl in
-    logged_shown g.P.Predictor.table g.I.Memory.means g.D.Memory.means s w c.args.machine.now c.run.new.self c.note.new.self c.outcomes_of.result
+    c.args.assembly.now.machine c.run.new.self c.run.result (records c.run.new.journal.retirements) (records c.run.new.journal.clocks) bound fresh c.run.ensures.does refl refl in
+    logged_shown g.P.Predictor.table g.I.Memory.means g.D.Memory.means s w c.args.assembly.now.machine c.run.new.self c.note.new.self c.outcomes_of.result
     (records c.run.new.journal.retirements) (records c.run.new.journal.clocks) (string_bytes c.write_report.new.text) c.requires whole gaps c.outcomes_of.ensures
     (text ∙ (λ k. two_tables (c.records-2.ensures k) (c.records-3.ensures k) ++ report_text s w c.outcomes_of.result))

@@ -6,7 +6,7 @@ use base::failure::Failure;
 use clocking::state::ClockRecord;
 use clocktable::table::clock_table;
 use listing::image::{PaddedImage, padded};
-use memory::Flat;
+use listing::program::data_memory;
 use pipeline::journal::Journal;
 use pipeline::machine::{RetiredAt, load};
 use predictor::never::Never;
@@ -15,15 +15,11 @@ use std::alloc::{AllocError, Global};
 /// The most clocks that a run makes.
 const LIMIT: usize = 1000;
 
-/// How many zero bytes of data a program has.
-const DATA: usize = 4096;
-
 /// Clocks an image through the pipeline, from address 0, and prints what retired, the clocks and the counts.
 fn print_of(heap: Global, image: PaddedImage) -> Result<String, AllocError>
     ensures { IfOk result (λ t. ClockPrinted image.bytes.items (string_bytes t)) }
 {
-    let data = vec![in heap; 0u8; DATA]?;
-    let mut machine = load(0, 0, Never, Flat::new(image.into_bytes()), Flat::new(data));
+    let mut machine = load(0, 0, Never, image.into_memory(), data_memory(heap)?);
     let mut retired_slots = [RetiredAt::EMPTY; LIMIT];
     let mut clock_slots = [ClockRecord::EMPTY; LIMIT];
     let mut journal = Journal::new(&mut retired_slots, &mut clock_slots);

@@ -40,6 +40,7 @@ fn data_memory(heap: Global, setup: &Setup) -> Result<Boxed<Stack>, Failure>
 }
 
 /// Loads a machine with the chosen predictor and stacks, over an image and zero bytes of data.
+#[tactic(auto, using(crate::proofs::Refusing::data_refused_by))]
 pub(crate) fn assemble(
     heap: Global,
     setup: &Setup,

@@ -1,11 +1,8 @@
-use Rattle.std.proofs.Common.{◌≡◌, length, replicate, vec_items, string_bytes, refl, ap, ◌∙◌, lit≤}
+use Rattle.std.proofs.Common.{◌≡◌, vec_items, string_bytes, ap, ◌∙◌, lit≤}
 use Rattle.std.proofs.lemmas.Result.{IfOk-weaker}
-use Rattle.base.specs.Logs.{records}
 use Rattle.memory.specs.Flat.{flat_means}
 use Rattle.predictor.specs.Tables.{never}
 use Rattle.clocktable.specs.Tables.{clock_table}
-use Rattle.longrun.specs.LongRuns.{empty_logs}
-use Rattle.pipeline.specs.Logged.{logs}
 use Rattle.report.specs.Clocklogs.{ClockPrinted}
 use Rattle.report.proofs.Running.{whole_run}
 use Rattle.report.proofs.clocklog.print_of.Goals as goal
@@ -14,9 +11,7 @@ pub returns : goal.returns
 returns c =
     let starts = c.load-machine.ensures.starts in
     let made = c.new-journal.ensures in
-    let fresh : logs c.new-journal.result ≡ empty_logs 1000 1000 =
-    λ k. record { retired_room = made.rooms.0 k; retired = made.empty.0 k; clock_room = made.rooms.1 k; clocks = made.empty.1 k } in
-    let whole = whole_run (λ _. never) flat_means flat_means 1000 _ _ c.load-machine.result c.run.new.self c.run.result (records c.run.new.journal.retirements) (records c.run.new.journal.clocks) (lit≤ tt) fresh c.run.ensures.does refl refl in
+    let whole = whole_run (λ _. never) flat_means flat_means 1000 c.new-journal.result c.run.new.journal c.load-machine.result c.run.new.self c.run.result (lit≤ tt) made.empty made.rooms c.run.ensures.does in
     IfOk-weaker c.clock_table.result (λ t. string_bytes t ≡ clock_table c.records.result.now c.records-2.result.now c.stopped.result c.counts.result)
     (λ t. ClockPrinted (vec_items c.args.image.bytes) (string_bytes t))
     (λ t e. record {

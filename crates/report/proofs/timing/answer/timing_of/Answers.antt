@@ -1,5 +1,4 @@
-use Rattle.std.proofs.Common.{ℕ, List, length, vec_items, ap, ◌∙◌}
-use Rattle.listing.proofs.Printing.{padded_fits}
+use Rattle.std.proofs.Common.{vec_items}
 use Rattle.report.proofs.Refusing.{timed}
 use Rattle.report.proofs.timing.answer.timing_of.Goals as goal
 

@@ -4,17 +4,8 @@ use Rattle.memory.specs.Flat.{flat_fits}
 use Rattle.pipeline.specs.Calls.{load_fits}
 use Rattle.choice.specs.Stacks.{layers_fit}
 use Rattle.report.specs.Timings.{means}
-use Rattle.report.proofs.Refusing.{data_refused_by, sound_setup}
+use Rattle.report.proofs.Refusing.{sound_setup}
 use Rattle.report.proofs.timing.assembly.assemble.Goals as goal
-
-pub returns-in_err-data : goal.returns-in_err-data
-returns-in_err-data c =
-    let s = c.args.setup.now in
-    let b = c.in_ok-instructions.ensures in
-    let f = c.from_residual-in_err-data.ensures in
-    rw (← c.into_bytes.ensures.bytes)
-    (data_refused_by s (vec_items c.into_bytes.result) c.in_err-data.field-0.0 c.from_residual-in_err-data.result f.0 f.1
-    (and_parts (flat_fits (vec_len c.into_bytes.result)) (layers_fit s.instructions) b.fits).1 c.in_err-data.ensures)
 
 pub returns : goal.returns
 returns c =

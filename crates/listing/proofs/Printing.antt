@@ -1,16 +1,13 @@
 -- A program's run begins where it should. Assumes nothing.
-use Rattle.std.proofs.Common.{◌≡◌, ℕ, zero, suc, ◌+◌, ◌-◌, ◌%◌, ◌≤◌, true, List, ◌++◌, length, get_or, replicate, vec_items, Option, refl, ap, ◌∙◌, arith, length-append}
+use Rattle.std.proofs.Common.{◌≡◌, ℕ, zero, suc, ◌%◌, List, length, get_or, replicate, vec_items, Option, refl, ap, ◌∙◌}
 use mathlib.Core.Path.{fun_ext}
-use lib.ListN.{length-replicate}
-use Rattle.std.proofs.lemmas.Bool.{eq-eqb, le-leb, and_from}
-use Rattle.memory.specs.Flat.{flat_fits, flat_view}
+use Rattle.memory.specs.Flat.{flat_view}
 use Rattle.memory.specs.declared.flat.Flat.{Flat}
 use Rattle.rv32i.specs.declared.registers.Registers.{Registers}
 use Rattle.sequential.specs.Runs.{Ran}
 use Rattle.sequential.specs.Sequential.{State, World}
 use Rattle.sequential.specs.declared.record.Retired.{Retired}
 use Rattle.sequential.specs.declared.record.Stop.{Stop}
-use Rattle.listing.specs.Images.{padded_size}
 use Rattle.listing.specs.Programs.{world_for, begin}
 
 zeros_at : (n x : ℕ) → get_or (replicate {A = ℕ} n 0) x 0 ≡ 0
@@ -31,13 +28,3 @@ begin_is a f d e v b =
 pub ran_at : (w v : World) (o p : Option Stop) (s t : State) (m n : ℕ) (h l : List Retired) (r : Option Stop) (u : State) (after : List Retired) → w ≡ v → o ≡ p → s ≡ t → m ≡ n → h ≡ l
     → Ran w o s m h r u after → Ran v p t n l r u after
 ran_at w v o p s t m n h l r u after a b c d e x = rw (← a, ← b, ← c, ← d, ← e) x
-
--- an image that is padded makes a flat memory
-pub padded_fits : (image : List ℕ) (n : ℕ) → length image ≤ 65536 → n ≡ length (image ++ replicate {A = ℕ} (padded_size (length image) - length image) 0) → flat_fits n ≡ true
-padded_fits image n h e =
-    let size : n ≡ padded_size (length image) =
-    e ∙ length-append image (replicate (padded_size (length image) - length image) 0) ∙ ap (λ (k : ℕ). length image + k) (length-replicate (padded_size (length image) - length image) 0) ∙ omega arith in
-    let whole : n % 16 ≡ 0 = omega arith in
-    let low : 16 ≤ n = omega arith in
-    let high : n ≤ 65536 = omega arith in
-    and_from _ _ (eq-eqb (n % 16) 0 whole) (and_from _ _ (le-leb 16 n low) (le-leb n 65536 high))

@@ -87,7 +87,7 @@ fn write_last(text: &mut String, stop: Option<Stop>) -> Result<(), AllocError>
 
 /// Writes the report of a run behind a text.
 #[tactic(auto, unfolding(crate::specs::Lines::report_text))]
-pub fn write_report(
+pub(crate) fn write_report(
     text: &mut String,
     setup: &Setup,
     longest: Longest,

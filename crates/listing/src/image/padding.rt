@@ -15,13 +15,12 @@ fn padded_size(len: usize) -> usize
 }
 
 /// An image with zeros behind it up to a multiple of 16, at least 16 bytes in all; refused above 65536 bytes.
-pub fn padded(image: Vec<u8>) -> Result<PaddedImage, Failure>
+pub fn padded(mut image: Vec<u8>) -> Result<PaddedImage, Failure>
     ensures { Padded image.items result }
 {
     if image.len() > 65536 {
         return Err(Failure::Refused(Refusal::FlatSize));
     }
-    let mut bytes = image;
-    bytes.resize(padded_size(bytes.len()), 0)?;
-    Ok(PaddedImage { bytes })
+    image.resize(padded_size(image.len()), 0)?;
+    Ok(PaddedImage { bytes: image })
 }

@@ -1,5 +1,6 @@
 -- Every clock keeps the agreement with the sequential machine. Assumes nothing.
-use Rattle.std.proofs.Common.{◌≡◌, ℕ, ◌+◌, ◌-◌, ◌%◌, ◌<◌, ◌≤◌, Bool, true, false, cond, eqb, ltb, ◌||◌, List, [], ◌∷◌, ◌++◌, length, is_some, Some, None, Ok, Err, Option, sym, refl, ap, ◌∙◌, subst, append-nil, arith}
+use Rattle.std.proofs.Common.{◌≡◌, ℕ, ◌+◌, ◌-◌, ◌%◌, ◌<◌, ◌≤◌, Bool, true, false, cond, eqb, ltb, List, [], ◌∷◌, ◌++◌, length, is_some, Some, None, Ok, Err, Option, sym, refl, ap, ◌∙◌, subst, append-nil, arith}
+use Rattle.std.proofs.Math.Bool.{or-false}
 use mathlib.Core.Path.{fun_ext}
 use Rattle.base.specs.declared.bus.Request.{Request}
 use Rattle.base.specs.declared.bus.Request.TheVariants.{Read}
@@ -82,7 +83,7 @@ bytes_from world s bytes (Full c) h e = bytes_by world s c bytes (after_at world
 -- W as what it stops with, or not at all
 flows_if : (w : Latch Completed) → stop_of w ≡ None → Flows w
 flows_if Empty e = tt
-flows_if (Faulting stop) e = let z : ◌≡◌ {A = ℕ} 0 1 = cc in absurd (omega arith)
+flows_if (Faulting stop) e = cc
 flows_if (Full c) e = tt
 
 faulting_if : (w : Latch Completed) (stop : Stop) → stop_of w ≡ Some stop → w ≡ Faulting stop
@@ -99,7 +100,7 @@ retires_count (Full c) h = refl
 budget : (bound before after l : ℕ) (w : Latch Completed) (b : Bool) → b ≡ is_some (retirement_of w) → Down bound w before after → 1 ≤ after → before ≤ l → (b ≡ false → 2 ≤ l) × (after ≤ cond b bound (l - 1))
 budget bound before after l Empty b e d o k = (λ z. omega arith, rw e (omega arith))
 budget bound before after l (Faulting stop) b e d o k = absurd d
-budget bound before after l (Full c) b e d o k = (λ z. let y : true ≡ false = sym e ∙ z in let x : ◌≡◌ {A = ℕ} 0 1 = cc in absurd (omega arith), rw e d)
+budget bound before after l (Full c) b e d o k = (λ z. cc, rw e d)
 
 module _ {P I D : Type 0} (table : Table P) (instructions : Meaning I) (words : Meaning D) (il : Lawful instructions) (dl : Lawful words) (first : Core P I D) where
   abbrev world : World
@@ -244,11 +245,7 @@ module _ {P I D : Type 0} (table : Table P) (instructions : Meaning I) (words : 
         m.latches.f m.latches.d m.latches.x m.latches.m m.latches.w (w.text_served, w.text_worn)
 
     produces : productive e ≡ is_some (retirement_of m.latches.w)
-    produces = rw (w.retires_so, w.not_stop) (or_false (is_some (retirement_of m.latches.w)))
-      where
-        or_false : (b : Bool) → (b || false) ≡ b
-        or_false true = refl
-        or_false false = refl
+    produces = rw (w.retires_so, w.not_stop) (or-false (is_some (retirement_of m.latches.w)))
 
     abbrev budgeted : (productive e ≡ false → 2 ≤ left (wi + wd + 3) (wi + wd + 5) h) × (ends ≤ cond (productive e) (wi + wd + 3) (left (wi + wd + 3) (wi + wd + 5) h - 1))
     budgeted =
@@ -339,7 +336,7 @@ module _ {P I D : Type 0} (table : Table P) (instructions : Meaning I) (words : 
         text = fun_ext i.byte ∙ k.text;
         data_longest = j.longest ∙ k.data_longest;
         text_longest = i.longest ∙ k.text_longest;
-        paced = paced_more (wi + wd + 3) (wi + wd + 5) h e k.paced (λ z. let y : ◌≡◌ {A = ℕ} 0 1 = cc in absurd (omega arith));
+        paced = paced_more (wi + wd + 3) (wi + wd + 5) h e k.paced (λ z. cc);
         accounted = record {
           taught = taught_more table first.predictor m.predictor n.predictor h e a.taught (rw none w.same_predictor);
           balanced = rw (w.latches_so, w.stops_so) (omega arith);

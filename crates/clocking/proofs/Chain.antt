@@ -4,6 +4,7 @@ use Rattle.rv32i.specs.declared.cause.Cause.{Cause}
 use Rattle.rv32i.specs.declared.cause.Cause.TheVariants.{FetchOutside}
 use Rattle.rv32i.specs.declared.registers.Registers.{Registers}
 use Rattle.sequential.specs.Sequential.{State, World, then}
+use Rattle.sequential.specs.declared.record.Stop.{Stop}
 use Rattle.clocking.specs.declared.latch.Fetched.{Fetched}
 use Rattle.clocking.specs.declared.latch.Decoded.{Decoded}
 use Rattle.clocking.specs.declared.latch.Executed.{Executed}
@@ -21,11 +22,21 @@ abbrev pub Broken : Reach → Type 0
 Broken (Err c) = Unit {0}
 Broken (Ok s) = ⊥
 
+-- the stop is the state's, with the cause that its instruction has; past a break nothing is said
+abbrev pub Faults : {T : Type 0} → (State → Result T Cause) → Reach → Stop → Type 0
+Faults h (Err z) stop = Unit {0}
+Faults h (Ok s) stop = (stop.address ≡ s.address) × (Err stop.cause ≡ h s)
+
+-- a cause that an instruction has in one stage it has in the next
+pub faults_on : {T U : Type 0} (h : State → Result T Cause) (k : State → Result U Cause) → ((s : State) (c : Cause) → Err c ≡ h s → Err c ≡ k s) → (r : Reach) (stop : Stop) → Faults h r stop
+    → Faults k r stop
+faults_on h k same (Err z) stop i = tt
+faults_on h k same (Ok s) stop i = (i.0, same s stop.cause i.1)
+
 -- the latch holds what the state's instruction comes to; past a break nothing is said
 abbrev pub Holds : {T : Type 0} → (State → T → Result T Cause) → (State → Result T Cause) → Reach → Latch T → Type 0
 Holds f h r Empty = Unit {0}
-Holds f h (Err z) (Faulting stop) = Unit {0}
-Holds f h (Ok s) (Faulting stop) = (stop.address ≡ s.address) × (Err stop.cause ≡ h s)
+Holds f h r (Faulting stop) = Faults h r stop
 Holds f h (Err z) (Full x) = Unit {0}
 Holds f h (Ok s) (Full x) = Ok x ≡ f s x
 

@@ -18,7 +18,7 @@ use Rattle.rv32i.specs.Effects.{request, loaded}
 use Rattle.rv32i.proofs.Laws.{InRange, in_range}
 use Rattle.clocking.specs.Stages.{data_request, sent, complete, completes_with, answered, told, data_stage, from_m, or_else}
 use Rattle.clocking.specs.declared.stage.DataOut.{DataOut}
-use Rattle.clocking.proofs.Chain.{Reach, Broken, HoldsW, HoldsM, behindW, behindM, bytes_at}
+use Rattle.clocking.proofs.Chain.{Reach, Broken, faults_on, HoldsW, HoldsM, behindW, behindM, bytes_at}
 use Rattle.clocking.proofs.Forward.{Known, layer, known_layer, Pairs, Runs, At, at, pairs, runs}
 use Rattle.clocking.proofs.Partial.{Done, settled_by, settle, moved, executed_at, done_at, completed_at, after_at}
 use Rattle.clocking.proofs.Served.{Bytes}
@@ -38,14 +38,14 @@ Back RollsBack r = Broken r
 abbrev Completes : State → (ℕ → ℕ) → Executed → ℕ → Result Done Cause → Type 0
 Completes s n e v o = (Ok (complete e v) ≡ then o (λ d. Ok (complete d.run d.value))) × (n ≡ bytes_at s (then o (λ d. Ok (moved s d))))
 
-abbrev GoodOf : State → (ℕ → ℕ) → Executed → Option Reply → Result Done Cause → Type 0
-GoodOf s n e None o = Completes s n e e.result o
-GoodOf s n e (Some (Ok (Word w))) o = Completes s n e (loaded e.access e.result w) o
-GoodOf s n e (Some (Ok Did)) o = Completes s n e e.result o
-GoodOf s n e (Some (Err Wait)) o = n ≡ s.bytes
-GoodOf s n e (Some (Err Outside)) o = ⊥
+abbrev Good : State → (ℕ → ℕ) → Executed → Option Reply → Result Done Cause → Type 0
+Good s n e None o = Completes s n e e.result o
+Good s n e (Some (Ok (Word w))) o = Completes s n e (loaded e.access e.result w) o
+Good s n e (Some (Ok Did)) o = Completes s n e e.result o
+Good s n e (Some (Err Wait)) o = n ≡ s.bytes
+Good s n e (Some (Err Outside)) o = ⊥
 
-good_by : (size : ℕ) (s : State) (n : ℕ → ℕ) (e : Executed) (q : Option Request) → InRange size (Ok q) → (t : Option Reply) → Bytes size q t s.bytes n → GoodOf s n e t (settled_by s.bytes e (Ok q))
+good_by : (size : ℕ) (s : State) (n : ℕ → ℕ) (e : Executed) (q : Option Request) → InRange size (Ok q) → (t : Option Reply) → Bytes size q t s.bytes n → Good s n e t (settled_by s.bytes e (Ok q))
 good_by size s n e None i None h = (refl, h)
 good_by size s n e None i (Some r) h = absurd h
 good_by size s n e (Some q) i None h = absurd h
@@ -63,33 +63,15 @@ idle_same size None m n h = h
 idle_same size (Some r) m n h = absurd h
 
 module _ (world : World) where
-  abbrev Comes : State → (ℕ → ℕ) → Executed → ℕ → Type 0
-  Comes s n e v = (Ok (complete e v) ≡ completed_at world s) × (n ≡ bytes_at s (after_at world s))
-
-  abbrev Good : State → (ℕ → ℕ) → Executed → Option Reply → Type 0
-  Good s n e None = Comes s n e e.result
-  Good s n e (Some (Ok (Word w))) = Comes s n e (loaded e.access e.result w)
-  Good s n e (Some (Ok Did)) = Comes s n e e.result
-  Good s n e (Some (Err Wait)) = n ≡ s.bytes
-  Good s n e (Some (Err Outside)) = ⊥
-
-  good_done : (s : State) (n : ℕ → ℕ) (e : Executed) (t : Option Reply) → GoodOf s n e t (done_at world s) → Good s n e t
-  unfolding completed_at after_at
-  good_done s n e None h = h
-  good_done s n e (Some (Ok (Word v))) h = h
-  good_done s n e (Some (Ok Did)) h = h
-  good_done s n e (Some (Err Wait)) h = h
-  good_done s n e (Some (Err Outside)) h = h
-
   done_so : (s : State) (e : Executed) (o : Result (Option Request) Cause) → Ok e ≡ executed_at world s → request world.data_size e.access e.result e.b ≡ o → done_at world s ≡ settled_by s.bytes e o
   unfolding done_at settle
   done_so s e o i q = rw (← i, q)
 
   good : (s : State) (n : ℕ → ℕ) (e : Executed) (t : Option Reply) (q : Option Request) → Ok e ≡ executed_at world s → request world.data_size e.access e.result e.b ≡ Ok q
-      → Bytes world.data_size q t s.bytes n → Good s n e t
+      → Bytes world.data_size q t s.bytes n → Good s n e t (done_at world s)
   good s n e t q i u h =
-      good_done s n e t (subst (λ (z : Result Done Cause). GoodOf s n e t z) (sym (done_so s e (Ok q) i u))
-      (good_by world.data_size s n e q (subst (λ (z : Result (Option Request) Cause). InRange world.data_size z) u (in_range world.data_size e.access e.result e.b)) t h))
+      subst (λ (z : Result Done Cause). Good s n e t z) (sym (done_so s e (Ok q) i u))
+      (good_by world.data_size s n e q (subst (λ (z : Result (Option Request) Cause). InRange world.data_size z) u (in_range world.data_size e.access e.result e.b)) t h)
 
   refused : (s : State) (e : Executed) (c : Cause) → Ok e ≡ executed_at world s → request world.data_size e.access e.result e.b ≡ Err c → Err c ≡ completed_at world s
   unfolding completed_at
@@ -125,7 +107,8 @@ module _ (world : World) where
   known_wait s e (Ok t) h f k = known_layer f s t e.rd None h.value h.registers (λ u q. cc) k
 
   module _ (s : State) (n : ℕ → ℕ) (e : Executed) (i : Ok e ≡ executed_at world s) where
-    finishes : (v : ℕ) → Comes s n e v → DataKept s (Full e) n (completes_with e v)
+    finishes : (v : ℕ) → Completes s n e v (done_at world s) → DataKept s (Full e) n (completes_with e v)
+    unfolding completed_at after_at
     finishes v h = record {
       w = h.0;
       memory = h.1;
@@ -152,7 +135,7 @@ module _ (world : World) where
           source = λ f k. broken_known _ (after_at world s) b;
         }
 
-    placed : (t : Option Reply) → Good s n e t → DataKept s (Full e) n (answered e t)
+    placed : (t : Option Reply) → Good s n e t (done_at world s) → DataKept s (Full e) n (answered e t)
     placed None h = finishes e.result h
     placed (Some (Ok (Word w))) h = finishes (loaded e.access e.result w) h
     placed (Some (Ok Did)) h = finishes e.result h
@@ -189,7 +172,7 @@ module _ (world : World) where
     source = λ f k. k;
   }
   data_kept s n t (Faulting stop) h w = record {
-    w = (h.0, faulting_same s stop.cause h.1);
+    w = faults_on _ _ faulting_same (Ok s) stop h;
     memory = idle_same world.data_size t s.bytes n w;
     m = tt;
     same = refl;

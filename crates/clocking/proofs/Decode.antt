@@ -3,7 +3,6 @@ use Rattle.std.proofs.Common.{◌≡◌, ℕ, Some, None, Ok, Err, Option, Resul
 use Rattle.rv32i.specs.declared.cause.Cause.{Cause}
 use Rattle.rv32i.specs.declared.register.Register.{Register}
 use Rattle.sequential.specs.Sequential.{State, World, then}
-use Rattle.sequential.specs.declared.record.Stop.{Stop}
 use Rattle.clocking.specs.declared.latch.Fetched.{Fetched}
 use Rattle.clocking.specs.declared.latch.Decoded.{Decoded}
 use Rattle.clocking.specs.declared.latch.Latch.{Latch}
@@ -17,7 +16,7 @@ use Rattle.rv32i.specs.declared.instruction.Instruction.{Instruction}
 use Rattle.sequential.specs.Sequential.{fetch}
 use Rattle.clocking.specs.Stages.{source, with_operands, decode_word, decode_moves, decode_stays, decode_stage}
 use Rattle.clocking.specs.declared.stage.DecodeOut.{DecodeOut}
-use Rattle.clocking.proofs.Chain.{Reach, HoldsD, HoldsX, behindD, behindX, on_if}
+use Rattle.clocking.proofs.Chain.{Reach, faults_on, HoldsD, HoldsX, behindD, behindX, on_if}
 use Rattle.clocking.proofs.Execute.{Turned, Onward}
 use Rattle.clocking.proofs.Forward.{KnownRead}
 use Rattle.clocking.proofs.Partial.{operated, fetched_at, decoded_at, executed_at, done_at, after_at}
@@ -102,13 +101,9 @@ module _ (world : World) where
     by_broken c f (Err z) = record { x = tt; rests = refl }
     by_broken c f (Ok i) = both_broken c f i (source reads (first_source i)) (source reads (second_source i))
 
-    faulting_held : (r : Reach) (stop : Stop) → HoldsD world r (Faulting stop) → HoldsX world r (Faulting stop)
-    faulting_held (Err z) stop h = tt
-    faulting_held (Ok s) stop h = (h.0, faulting_so s stop.cause h.1)
-
     moves_kept : (r : Reach) (d : Latch Fetched) → HoldsD world r d → KnownRead reads r → DecodeKept r r d u (decode_moves reads d)
     moves_kept r Empty h k = record { x = tt; rests = refl }
-    moves_kept r (Faulting stop) h k = record { x = faulting_held r stop h; rests = refl }
+    moves_kept r (Faulting stop) h k = record { x = faults_on _ _ faulting_so r stop h; rests = refl }
     moves_kept (Err c) (Full f) h k = by_broken c f f.issued
     moves_kept (Ok s) (Full f) h k = by_word s f (word_of s f h) k f.issued refl
 

@@ -3,7 +3,6 @@ use Rattle.std.proofs.Common.{◌≡◌, ℕ, Bool, true, false, cond, eqb, Some
 use Rattle.rv32i.specs.declared.cause.Cause.{Cause}
 use Rattle.rv32i.specs.declared.register.Register.{Register}
 use Rattle.sequential.specs.Sequential.{State, World, then}
-use Rattle.sequential.specs.declared.record.Stop.{Stop}
 use Rattle.clocking.specs.declared.latch.Decoded.{Decoded}
 use Rattle.clocking.specs.declared.latch.Executed.{Executed}
 use Rattle.clocking.specs.declared.latch.Latch.{Latch}
@@ -13,7 +12,7 @@ use Rattle.clocking.specs.declared.stage.Flow.TheVariants.{Moves, Stays, RollsBa
 use Rattle.rv32i.specs.declared.cause.Cause.TheVariants.{FetchOutside}
 use Rattle.clocking.specs.Stages.{execute, turned, checked, execute_stage, x_result, early, from_x, or_else}
 use Rattle.clocking.specs.declared.stage.ExecuteOut.{ExecuteOut}
-use Rattle.clocking.proofs.Chain.{Reach, Broken, HoldsM, HoldsX, behindM, behindX, guessed, Leads}
+use Rattle.clocking.proofs.Chain.{Reach, Broken, faults_on, HoldsM, HoldsX, behindM, behindX, guessed, Leads}
 use Rattle.clocking.proofs.Data.{left, Back}
 use Rattle.clocking.proofs.Forward.{Known, layer, known_layer, Runs, AtX, at_x, runs, executes, ends}
 use Rattle.clocking.proofs.Partial.{decoded_at, executed_at, after_at}
@@ -104,10 +103,6 @@ module _ (world : World) where
   checked_broken c d (Err z) = record { m = tt; onward = refl; source = λ f k. tt }
   checked_broken c d (Ok e) = turned_broken c d e (eqb e.next d.guess)
 
-  faulting_held : (r : Reach) (stop : Stop) → HoldsX world r (Faulting stop) → HoldsM world r (Faulting stop)
-  faulting_held (Err z) stop h = tt
-  faulting_held (Ok s) stop h = (h.0, faulting_so s stop.cause h.1)
-
   pub execute_kept : (flow : Flow) (r : Reach) (m : Latch Executed) (x : Latch Decoded) → Back flow (behindM world r (left flow m)) → HoldsM world r (left flow m)
       → HoldsX world (behindM world r (left flow m)) x → ExecuteKept flow r (left flow m) x (execute_stage m x flow)
   execute_kept RollsBack r m x hb hm hx = record { m = tt; onward = hb; source = λ f k. tt }
@@ -115,7 +110,7 @@ module _ (world : World) where
   execute_kept Stays r m (Faulting stop) hb hm hx = record { m = hm; onward = refl; source = λ f k. tt }
   execute_kept Stays r m (Full d) hb hm hx = record { m = hm; onward = refl; source = λ f k. tt }
   execute_kept Moves r m Empty hb hm hx = record { m = tt; onward = refl; source = λ f k. k }
-  execute_kept Moves r m (Faulting stop) hb hm hx = record { m = faulting_held r stop hx; onward = refl; source = λ f k. known_broken _ stop.cause r }
+  execute_kept Moves r m (Faulting stop) hb hm hx = record { m = faults_on _ _ faulting_so r stop hx; onward = refl; source = λ f k. known_broken _ stop.cause r }
   execute_kept Moves (Err z) m (Full d) hb hm hx = checked_broken z d (execute d)
   execute_kept Moves (Ok s) m (Full d) hb hm hx =
       let e = executed_so s d hx in

@@ -5,7 +5,6 @@ use Rattle.base.specs.declared.bus.Request.{Request}
 use Rattle.base.specs.declared.bus.Request.TheVariants.{Read}
 use Rattle.memory.specs.Meaning.{Reply}
 use Rattle.memory.specs.declared.Answer.TheVariants.{Word, Done as Did}
-use Rattle.memory.specs.declared.Unserved.TheVariants.{Wait, Outside}
 use Rattle.sequential.specs.Sequential.{State, World, then}
 use Rattle.clocking.specs.declared.latch.Fetched.{Fetched}
 use Rattle.clocking.specs.declared.latch.Latch.{Latch}
@@ -47,8 +46,7 @@ Arrives f t None = Unit {0}
 Arrives f None (Some x) = ⊥
 Arrives f (Some (Ok (Word w))) (Some x) = (x.address ≡ f) × (x.word ≡ w) × (x.issued ≡ issued w)
 Arrives f (Some (Ok Did)) (Some x) = ⊥
-Arrives f (Some (Err Wait)) (Some x) = ⊥
-Arrives f (Some (Err Outside)) (Some x) = ⊥
+Arrives f (Some (Err u)) (Some x) = ⊥
 
 module _ (world : World) where
   pub record FetchKept (q : Reach) (o : FetchOut) : Type 0 where
@@ -71,8 +69,7 @@ module _ (world : World) where
   arrives_at : (s : State) (f : ℕ) (x : Fetched) (t : Option Reply) (n : ℕ → ℕ) → Bytes world.text_size (Some (Read f)) t world.text n → Arrives f t (Some x) → f ≡ s.address → Ok x ≡ fetched_at world s x.guess
   arrives_at s f x None n h a l = absurd h
   arrives_at s f x (Some (Ok Did)) n h a l = absurd h
-  arrives_at s f x (Some (Err Wait)) n h a l = absurd a
-  arrives_at s f x (Some (Err Outside)) n h a l = absurd a
+  arrives_at s f x (Some (Err u)) n h a l = absurd a
   arrives_at s f x (Some (Ok (Word w))) n h a l =
       let v : w ≡ word world.text s.address = rw l at h.1 in
       let same : x ≡ record { address = s.address; word = word world.text s.address; issued = issued (word world.text s.address); guess = x.guess } =

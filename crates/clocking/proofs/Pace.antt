@@ -42,7 +42,7 @@ module _ (more : ℕ) where
       (e ∷ s.0, s.1, s.2, ap (λ (x : List Event). e ∷ x) s.3, omega arith, s.5)
 
   soon_next : (b : Bool) (n : ℕ) (h : List Event) → ((n : ℕ) → Paced n h → 1 ≤ n → Soon n h) → Allowed b n → Paced (next_left b n) h → b ≡ false → Soon (n - 1) h
-  soon_next true n h k a p e = let z : ◌≡◌ {A = ℕ} 0 1 = cc in absurd (omega arith)
+  soon_next true n h k a p e = absurd cc
   soon_next false n h k a p e = k (n - 1) p (omega arith)
 
   -- a paced history has a retirement or the stop in time
@@ -52,7 +52,7 @@ module _ (more : ℕ) where
 
   after_by : (b : Bool) (n : ℕ) (h : List Event) → 1 ≤ more → b ≡ true → Paced (next_left b n) h → Soon more h
   after_by true n h l q k = soon h more k l
-  after_by false n h l q k = let z : ◌≡◌ {A = ℕ} 0 1 = cc in absurd (omega arith)
+  after_by false n h l q k = absurd cc
 
   -- and so it has after each retirement
   pub soon_after : 1 ≤ more → (a : List Event) (e : Event) (b : List Event) (n : ℕ) → Paced n (a ++ e ∷ b) → productive e ≡ true → Soon more b

@@ -3,17 +3,21 @@ ghost use Rattle.std.specs.Prelude.{◌≡◌, ◌++◌, OnOk, IfOk, string_byte
 ghost use Rattle.listing.specs.Sequences.{retired_line, end_line, sequence_text};
 
 use crate::records::{RecordText, StopText};
-use crate::table::{Row, write_table};
+use crate::table::{Columns, write_table};
 use sequential::record::{Retired, Stop};
 use std::alloc::{AllocError, Global};
 use std::fmt::Write;
 
-/// The line of a retired instruction, with its number in the run.
-impl Row for Retired {
+/// A retired instruction, behind its number in the run.
+struct RetiredColumns;
+
+impl Columns for RetiredColumns {
+    type Record = Retired;
+
     ghost line = { retired_line };
 
-    fn write_row(&self, number: usize, text: &mut String) -> Result<(), AllocError> {
-        writeln!(text, "{number} {}", RecordText(*self))
+    fn write_line(text: &mut String, number: usize, record: &Retired) -> Result<(), AllocError> {
+        writeln!(text, "{number} {}", RecordText(*record))
     }
 }
 
@@ -37,7 +41,7 @@ pub fn sequence_text(
     ensures { IfOk result (λ t. string_bytes t ≡ sequence_text retired.now stop) }
 {
     let mut text = String::new(heap);
-    write_table(&mut text, "retired address word rd value\n", retired)?;
+    write_table::<RetiredColumns>(&mut text, "retired address word rd value\n", retired)?;
     write_end(&mut text, retired.len(), stop)?;
     Ok(text)
 }

@@ -5,24 +5,31 @@ ghost use Rattle.listing.specs.Lines.{lines};
 use std::alloc::AllocError;
 use std::fmt::Write;
 
-/// Records that are shown a line each.
-pub trait Row {
-    /// The line of a record that has this number in its table.
-    ghost line: { ℕ → Self → List ℕ };
+/// How a record is shown in a line of a table.
+// A trait and no closure: of a closure `write_table` would have to require what it writes.
+pub trait Columns {
+    type Record;
 
-    /// Writes the line behind a text.
-    fn write_row(&self, number: usize, text: &mut String) -> Result<(), AllocError>
-        ensures { OnOk result (string_bytes text.new ≡ string_bytes text.old ++ line number self.now) };
+    /// The line of a record that has this number in its table.
+    ghost line: { ℕ → Self.Record → List ℕ };
+
+    /// Writes that line behind a text.
+    fn write_line(text: &mut String, number: usize, record: &Self::Record) -> Result<(), AllocError>
+        ensures { OnOk result (string_bytes text.new ≡ string_bytes text.old ++ line number «record».now) };
 }
 
 /// Writes a table behind a text: the head, and the lines of the records, numbered from 1.
 #[tactic(auto, unfolding(crate::specs::Lines::lines))]
-pub fn write_table<R: Row>(text: &mut String, head: &str, rows: &[R]) -> Result<(), AllocError>
-    ensures { OnOk result (string_bytes text.new ≡ string_bytes text.old ++ (head.now ++ lines R.line 1 rows.now)) }
+pub fn write_table<C: Columns>(
+    text: &mut String,
+    head: &str,
+    records: &[C::Record],
+) -> Result<(), AllocError>
+    ensures { OnOk result (string_bytes text.new ≡ string_bytes text.old ++ (head.now ++ lines C.line 1 records.now)) }
 {
     text.push_str(head)?;
-    for (i, row) in rows.iter().enumerate() {
-        row.write_row(i + 1, text)?;
+    for (i, record) in records.iter().enumerate() {
+        C::write_line(text, i + 1, record)?;
     }
     Ok(())
 }

@@ -13,6 +13,7 @@ use base::bus::{Lanes, Request};
 use base::refusal::Refusal;
 use memory::{Answer, MOST_WAITS, Memory, Reply, Unserved, address_of, ask, is_within};
 pub use replies::wait_states_replies_follow_calls;
+use std::marker::Model;
 
 /// A request that the layer itself has told Wait, and how often.
 #[derive(Clone, Copy, PartialEq, Eq, Debug)]
@@ -33,12 +34,25 @@ impl Counted {
     }
 }
 
-/// The wait states of the memory below it.
+/// The wait states of the memory below it. Its size and its longest wait never change, so they are kept.
 #[derive(Drop)]
 pub struct WaitStates<M: Memory> {
     below: M,
     states: u32,
     counting: Option<Counted>,
+    size: u32,
+    longest: u32,
+}
+
+impl<M: Memory> Model for WaitStates<M> {
+    ghost use Rattle.std.specs.Prelude.{◌≡◌};
+    ghost use Rattle.wait_states.specs.WaitStates.{WaitStates as Seen, IsMeasured};
+
+    ghost Value = { Seen M };
+
+    ghost view = { λ w. record { below = w.below; states = w.states; counting = w.counting } };
+
+    ghost invariant = { λ w. IsMeasured M.Memory.means.view w.below w.states w.size w.longest };
 }
 
 impl<M: Memory> WaitStates<M> {
@@ -46,7 +60,7 @@ impl<M: Memory> WaitStates<M> {
     pub fn check(below: &M, states: u32) -> Result<(), Refusal>
         ensures { Checked (wait_fits states (M.Memory.means.view.longest below.now)) 2 result }
     {
-        if fits(states, below.longest()) {
+        if states <= 15 && below.longest() <= MOST_WAITS - states {
             Ok(())
         } else {
             Err(Refusal::LongWait)
@@ -59,25 +73,24 @@ impl<M: Memory> WaitStates<M> {
         ensures states { result.states ≡ states }
         ensures counting { result.counting ≡ None }
     {
+        let (size, longest) = match WaitStates::check(&below, states) {
+            Ok(()) => (below.size(), states + below.longest()),
+            Err(_) => (0, 0),
+        };
         WaitStates {
             below,
             states,
             counting: None,
+            size,
+            longest,
         }
-    }
-
-    /// Whether the layer passes its check.
-    fn fits(&self) -> bool
-        ensures { result ≡ wait_fits self.now.states (M.Memory.means.view.longest self.now.below) }
-    {
-        fits(self.states, self.below.longest())
     }
 
     /// Serves a request, of either kind.
     fn serve(&mut self, request: Request) -> Reply
         ensures { WaitServes M.Memory.means self.old request result self.new }
     {
-        if !is_within(self.size(), address_of(request)) {
+        if !is_within(self.size, address_of(request)) {
             self.counting = None;
             return Err(Unserved::Outside);
         }
@@ -103,13 +116,6 @@ impl<M: Memory> WaitStates<M> {
         };
         reply
     }
-}
-
-/// Whether so many wait states may stand over a memory with that longest wait.
-fn fits(states: u32, longest: u32) -> bool
-    ensures { result ≡ wait_fits states longest }
-{
-    states <= 15 && longest <= MOST_WAITS - states
 }
 
 /// Counts one more wait state of a request, of so many; false where it has had them all.
@@ -164,7 +170,7 @@ impl<M: Memory> Memory for WaitStates<M> {
     }
 
     fn peek(&self, address: u32) -> Option<u8> {
-        if self.fits() {
+        if address < self.size {
             self.below.peek(address)
         } else {
             None
@@ -172,16 +178,10 @@ impl<M: Memory> Memory for WaitStates<M> {
     }
 
     fn longest(&self) -> u32 {
-        // The one call below: with two, a stack of n layers would make 2 ^ n.
-        let longest = self.below.longest();
-        if fits(self.states, longest) {
-            self.states + longest
-        } else {
-            0
-        }
+        self.longest
     }
 
     fn size(&self) -> u32 {
-        if self.fits() { self.below.size() } else { 0 }
+        self.size
     }
 }

@@ -72,7 +72,7 @@ impl<const BITS: u32> Field<BITS> {
         Ok(field)
     }
 
-    /// The same; refused where it is odd.
+    /// Itself; refused where it is odd.
     pub(crate) fn even(self) -> Result<Field<BITS>, Refusal>
         ensures { MatchResult result (λ x. (x.value ≡ self.entry.value) × (x.value % 2 ≡ 0)) (λ why. (why ≡ NoWord) × ¬ (self.entry.value % 2 ≡ 0)) }
     {

@@ -15,12 +15,26 @@ use base::refusal::Refusal;
 use held::{Held, PostedWrite};
 use memory::{Answer, MOST_WAITS, Memory, Reply, Unserved, address_of, ask, is_within};
 pub use replies::write_buffer_replies_follow_calls;
+use std::marker::Model;
 
-/// Up to four writes on their way to the memory below.
+/// Up to four writes on their way to the memory below. Its size and its longest wait never change, so they are kept.
 #[derive(Drop)]
 pub struct WriteBuffer<M: Memory> {
     below: M,
     held: Held,
+    size: u32,
+    longest: u32,
+}
+
+impl<M: Memory> Model for WriteBuffer<M> {
+    ghost use Rattle.std.specs.Prelude.{◌≡◌};
+    ghost use Rattle.write_buffer.specs.WriteBuffer.{WriteBuffer as Seen, IsMeasured};
+
+    ghost Value = { Seen M };
+
+    ghost view = { λ b. record { below = b.below; held = b.held } };
+
+    ghost invariant = { λ b. IsMeasured M.Memory.means.view b.below b.size b.longest };
 }
 
 impl<M: Memory> WriteBuffer<M> {
@@ -28,7 +42,7 @@ impl<M: Memory> WriteBuffer<M> {
     pub fn check(below: &M) -> Result<(), Refusal>
         ensures { Checked (buffer_fits (M.Memory.means.view.longest below.now)) 2 result }
     {
-        if fits(below.longest()) {
+        if below.longest() <= (MOST_WAITS - 4) / 5 {
             Ok(())
         } else {
             Err(Refusal::LongWait)
@@ -40,24 +54,23 @@ impl<M: Memory> WriteBuffer<M> {
         ensures below { result.below ≡ below }
         ensures held { pending result.held ≡ [] }
     {
+        let (size, longest) = match WriteBuffer::check(&below) {
+            Ok(()) => (below.size(), 5 * below.longest() + 4),
+            Err(_) => (0, 0),
+        };
         WriteBuffer {
             below,
             held: Held::empty(),
+            size,
+            longest,
         }
-    }
-
-    /// Whether the layer passes its check.
-    fn fits(&self) -> bool
-        ensures { result ≡ buffer_fits (M.Memory.means.view.longest self.now.below) }
-    {
-        fits(self.below.longest())
     }
 
     /// Serves a request, of either kind.
     fn serve(&mut self, request: Request) -> Reply
         ensures { BufferServes M.Memory.means self.old request result self.new }
     {
-        if !is_within(self.size(), address_of(request)) {
+        if !is_within(self.size, address_of(request)) {
             return Err(Unserved::Outside);
         }
         if let Request::Write {
@@ -95,13 +108,6 @@ impl<M: Memory> WriteBuffer<M> {
     }
 }
 
-/// Whether a write buffer may stand over a memory with that longest wait.
-fn fits(longest: u32) -> bool
-    ensures { result ≡ buffer_fits longest }
-{
-    longest <= (MOST_WAITS - 4) / 5
-}
-
 impl<M: Memory> Memory for WriteBuffer<M> {
     ghost means = { buffer_means M.Memory.means };
 
@@ -133,20 +139,18 @@ impl<M: Memory> Memory for WriteBuffer<M> {
     }
 
     fn peek(&self, address: u32) -> Option<u8> {
-        if !self.fits() {
+        if self.size <= address {
             return None;
         }
         let byte = self.below.peek(address)?;
-        Some(self.held.over(self.below.size(), address, byte))
+        Some(self.held.over(self.size, address, byte))
     }
 
     fn longest(&self) -> u32 {
-        // The one call below: with two, a stack of n layers would make 2 ^ n.
-        let longest = self.below.longest();
-        if fits(longest) { 5 * longest + 4 } else { 0 }
+        self.longest
     }
 
     fn size(&self) -> u32 {
-        if self.fits() { self.below.size() } else { 0 }
+        self.size
     }
 }

@@ -5,7 +5,7 @@ ghost use Rattle.longrun.specs.Gaps.{none_yet, gap_to, gaps_after};
 use pipeline::machine::RetiredAt;
 
 /// The gaps of a run: how many clocks passed from loading to the first retirement, and from each to the next.
-#[derive(Clone, Copy)]
+#[derive(Clone, Copy, PartialEq, Eq, Debug)]
 pub struct Gaps {
     /// The clock of the latest retirement; 0 before the first.
     latest: u32,

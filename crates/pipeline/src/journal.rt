@@ -46,11 +46,12 @@ impl<'a> Journal<'a> {
         ensures slots { SameSlots self.old self.new }
     {
         if let Some(retirement) = event.retirement {
-            let _ = self.retirements.push(RetiredAt {
+            let retired = RetiredAt {
                 clock: event.clock.clock,
                 retired: retirement.retired,
-            });
+            };
+            self.retirements.push(retired).unwrap();
         }
-        let _ = self.clocks.push(event.clock);
+        self.clocks.push(event.clock).unwrap();
     }
 }

@@ -14,7 +14,7 @@ mod readings;
 pub use loading::{check, load};
 
 /// A retired record, and the clock in which it retired.
-#[derive(Clone, Copy)]
+#[derive(Clone, Copy, PartialEq, Eq, Debug)]
 pub struct RetiredAt {
     pub clock: u32,
     pub retired: Retired,
@@ -29,7 +29,7 @@ impl RetiredAt {
 }
 
 /// How many clocks a run made, and the refusal that the next would get if it made fewer than asked.
-#[derive(Clone, Copy)]
+#[derive(Clone, Copy, PartialEq, Eq, Debug)]
 pub struct Run {
     pub made: u32,
     pub why: Option<Refusal>,
@@ -37,7 +37,7 @@ pub struct Run {
 
 /// How many clocks a machine has made since it was loaded, and what became of the instructions that it fetched: so many
 /// retired, were removed by rollbacks or stand in latches, and `stopped` is 1 once it has stopped, else 0.
-#[derive(Clone, Copy)]
+#[derive(Clone, Copy, PartialEq, Eq, Debug)]
 pub struct Totals {
     pub clocks: u32,
     pub fetched: u32,

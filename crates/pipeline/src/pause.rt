@@ -16,6 +16,7 @@ pub fn pause<P: Predictor, I: Memory, D: Memory>(
     let token = machine.hold()?;
     match machine.release(token) {
         Ok(()) => Ok(()),
+        // no `map_err`: what comes back holds a token, which may not be dropped
         Err(_) => unreachable(),
     }
 }

@@ -3,7 +3,7 @@ ghost use Rattle.std.specs.Prelude.{◌≡◌, ◌≤◌};
 ghost use Rattle.predictor.specs.Counting.{stepped, high};
 
 /// A number from 0 to 3 that counts up and down, and stays where it is at the end of the range.
-#[derive(Clone, Copy)]
+#[derive(Clone, Copy, PartialEq, Eq, Debug)]
 pub struct Counter {
     /// From 0 to 3.
     pub value: u8,

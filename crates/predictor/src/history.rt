@@ -3,7 +3,7 @@ ghost use Rattle.std.specs.Prelude.{◌≡◌};
 ghost use Rattle.predictor.specs.Counting.{shifted};
 
 /// The latest eight outcomes, as the digits of a binary number: 1 for taken, the newest lowest.
-#[derive(Clone, Copy)]
+#[derive(Clone, Copy, PartialEq, Eq, Debug)]
 pub struct History {
     pub bits: u8,
 }

@@ -41,12 +41,12 @@ impl Register {
     pub fn nonzero(self) -> Option<Register>
         ensures { result ≡ nonzero self }
     {
-        if self.number == 0 { None } else { Some(self) }
+        (self.number != 0).then_some(self)
     }
 }
 
 /// The values of x0 to x31.
-#[derive(Clone, Copy)]
+#[derive(Clone, Copy, PartialEq, Eq, Debug)]
 pub struct Registers {
     values: [u32; 32],
 }

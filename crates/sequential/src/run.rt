@@ -21,7 +21,7 @@ impl<I: Memory, D: Memory> Machine<I, D> {
         while !log.is_full() {
             match self.step() {
                 Ok(retirement) => {
-                    let _ = log.push(retirement.retired);
+                    log.push(retirement.retired).unwrap();
                 }
                 Err(stop) => return Some(stop),
             }

@@ -6,7 +6,7 @@ use Rattle.base.specs.declared.bus.Request.{Request}
 use Rattle.base.specs.declared.bus.Request.TheVariants.{Read}
 use Rattle.memory.specs.Meaning.{Meaning, Lawful}
 use Rattle.memory.specs.Meaning.{Reply}
-use Rattle.memory.specs.declared.Answer.TheVariants.{Word, Done}
+use Rattle.memory.specs.declared.Answer.TheVariants.{Word}
 use Rattle.memory.specs.declared.Unserved.TheVariants.{Wait, Outside}
 use Rattle.rv32i.specs.declared.registers.Registers.{Registers}
 use Rattle.sequential.specs.Runs.{Steps, none, more}
@@ -26,7 +26,7 @@ use Rattle.clocking.specs.declared.latch.Latch.{Latch}
 use Rattle.clocking.specs.declared.latch.Latch.TheVariants.{Empty, Faulting, Full}
 use Rattle.clocking.specs.declared.latch.Latches.{Latches}
 use Rattle.clocking.specs.declared.stage.Flow.{Flow}
-use Rattle.clocking.specs.declared.stage.Flow.TheVariants.{Moves, Stays, RollsBack}
+use Rattle.clocking.specs.declared.stage.Flow.TheVariants.{Moves}
 use Rattle.clocking.proofs.Balance.{clock_balance, dropped_most}
 use Rattle.clocking.proofs.Chain.{Flows, Reach, Chain, HoldsW, behindW, bytes_at}
 use Rattle.clocking.proofs.Countdown.{count, Lulled, Down, down, lulls, least_one, at_first}
@@ -41,28 +41,23 @@ use Rattle.clocking.proofs.Partial.{completed_at, after_at, retires_as, step_com
 use Rattle.clocking.proofs.Served.{Bytes}
 
 arrives_so : {P : Type 0} (table : Table P) (p : P) (f : ℕ) (a : Option Reply) → Arrives f a (arrival table p f a)
-arrives_so table p f None = tt
 arrives_so table p f (Some (Ok (Word w))) = (refl, refl, refl)
-arrives_so table p f (Some (Ok Done)) = tt
-arrives_so table p f (Some (Err u)) = tt
+arrives_so table p f a = tt
 
 -- reading does not change the bytes
 read_same : (size f : ℕ) (a : Option Reply) (u v : ℕ → ℕ) → Bytes size (Some (Read f)) a u v → v ≡ u
-read_same size f None u v h = absurd h
 read_same size f (Some (Ok (Word w))) u v h = h.2
-read_same size f (Some (Ok Done)) u v h = absurd h
 read_same size f (Some (Err Wait)) u v h = h
 read_same size f (Some (Err Outside)) u v h = h.1
+read_same size f a u v h = absurd h
 
 asked_kept : (size f : ℕ) (b d : Bool) (a : Option Reply) (u v : ℕ → ℕ) → Bytes size (sent (asked_if f b d)) a u v → v ≡ u
 asked_kept size f true true a u v h = read_same size f a u v h
-asked_kept size f true false a u v h = idle_same size a u v h
-asked_kept size f false d a u v h = idle_same size a u v h
+asked_kept size f b d a u v h = idle_same size a u v h
 
 text_kept : (size f : ℕ) (flow : Flow) (a : Option Reply) (u v : ℕ → ℕ) → Bytes size (sent (fetching size f flow)) a u v → v ≡ u
 text_kept size f Moves a u v h = asked_kept size f (eqb (f % 4) 0) (ltb f size) a u v h
-text_kept size f Stays a u v h = idle_same size a u v h
-text_kept size f RollsBack a u v h = idle_same size a u v h
+text_kept size f flow a u v h = idle_same size a u v h
 
 -- ---- what retires is a step of the sequential machine
 
@@ -76,25 +71,21 @@ bytes_by world s c bytes (Err z) e i p h = absurd p
 bytes_by world s c bytes (Ok t) e i p h = (record { retirement = retires_as c; after = t }, step_completes world s c t (sym e) i, h)
 
 bytes_from : (world : World) (s : State) (bytes : ℕ → ℕ) (w : Latch Completed) → HoldsW world (Ok s) w → bytes ≡ bytes_at s (behindW world (Ok s) w) → BytesSo world s w bytes
-bytes_from world s bytes Empty h e = e
-bytes_from world s bytes (Faulting stop) h e = e
 bytes_from world s bytes (Full c) h e = bytes_by world s c bytes (after_at world s) h refl (rw h (pairs world s)) e
+bytes_from world s bytes w h e = e
 
 -- W as what it stops with, or not at all
 flows_if : (w : Latch Completed) → stop_of w ≡ None → Flows w
-flows_if Empty e = tt
 flows_if (Faulting stop) e = cc
-flows_if (Full c) e = tt
+flows_if w e = tt
 
 faulting_if : (w : Latch Completed) (stop : Stop) → stop_of w ≡ Some stop → w ≡ Faulting stop
-faulting_if Empty stop e = cc
 faulting_if (Faulting s) stop e = cc
-faulting_if (Full c) stop e = cc
+faulting_if w stop e = cc
 
 retires_count : (w : Latch Completed) → Flows w → one_if (is_some (retirement_of w)) ≡ occupied w
-retires_count Empty h = refl
 retires_count (Faulting stop) h = absurd h
-retires_count (Full c) h = refl
+retires_count w h = refl
 
 -- so a budget that was enough before is enough after it
 budget : (bound before after l : ℕ) (w : Latch Completed) (b : Bool) → b ≡ is_some (retirement_of w) → Down bound w before after → 1 ≤ after → before ≤ l → (b ≡ false → 2 ≤ l) × (after ≤ cond b bound (l - 1))

@@ -1,9 +1,9 @@
 -- What is fetched has retired, was dropped or stands in a latch. Assumes nothing.
-use Rattle.std.proofs.Common.{◌≡◌, ℕ, ◌+◌, ◌≤◌, Bool, true, false, eqb, Some, None, Ok, Err, Option, Result, refl, arith}
+use Rattle.std.proofs.Common.{◌≡◌, ℕ, ◌+◌, ◌≤◌, Bool, true, eqb, Some, None, Ok, Err, Option, Result, refl, arith}
 use Rattle.base.specs.declared.bus.Request.{Request}
 use Rattle.memory.specs.Meaning.{Reply}
-use Rattle.memory.specs.declared.Answer.TheVariants.{Word, Done}
-use Rattle.memory.specs.declared.Unserved.TheVariants.{Wait, Outside}
+use Rattle.memory.specs.declared.Answer.TheVariants.{Word}
+use Rattle.memory.specs.declared.Unserved.TheVariants.{Wait}
 use Rattle.rv32i.specs.Effects.{first_source, second_source}
 use Rattle.rv32i.specs.declared.cause.Cause.{Cause}
 use Rattle.rv32i.specs.declared.instruction.Instruction.{Instruction}
@@ -16,7 +16,7 @@ use Rattle.clocking.specs.declared.latch.Fetched.{Fetched}
 use Rattle.clocking.specs.declared.latch.Decoded.{Decoded}
 use Rattle.clocking.specs.declared.latch.Executed.{Executed}
 use Rattle.clocking.specs.declared.latch.Latch.{Latch}
-use Rattle.clocking.specs.declared.latch.Latch.TheVariants.{Empty, Faulting, Full}
+use Rattle.clocking.specs.declared.latch.Latch.TheVariants.{Empty, Full}
 use Rattle.clocking.specs.declared.latch.Latches.{Latches}
 use Rattle.clocking.specs.declared.stage.Flow.{Flow}
 use Rattle.clocking.specs.declared.stage.Flow.TheVariants.{Moves, Stays, RollsBack}
@@ -30,17 +30,13 @@ staying Stays l = occupied l
 staying RollsBack l = 0
 
 told_balance : (e : Executed) (o : Result (Option Request) Cause) (r : Option Reply) → occupied (told e o r).w + staying (told e o r).flow (Full e) ≡ 1
-told_balance e (Err c) r = refl
-told_balance e (Ok q) None = refl
 told_balance e (Ok q) (Some (Ok (Word w))) = refl
-told_balance e (Ok q) (Some (Ok Done)) = refl
 told_balance e (Ok q) (Some (Err Wait)) = refl
-told_balance e (Ok q) (Some (Err Outside)) = refl
+told_balance e o r = refl
 
 data_balance : (m : Latch Executed) (o : Result (Option Request) Cause) (r : Option Reply) → occupied (data_stage m o r).w + staying (data_stage m o r).flow m ≡ occupied m
-data_balance Empty o r = refl
-data_balance (Faulting stop) o r = refl
 data_balance (Full e) o r = told_balance e o r
+data_balance m o r = refl
 
 -- M has what stayed there and what X gave; X is dropped after a rollback from data
 abbrev Executes : Flow → Latch Executed → Latch Decoded → ExecuteOut → Type 0
@@ -48,7 +44,7 @@ Executes flow m x o = occupied o.m + staying o.flow x + if_rolled flow (occupied
 
 turned_balance : (m : Latch Executed) (d : Decoded) (e : Executed) (b : Bool) → Executes Moves m (Full d) (turned e b)
 turned_balance m d e true = refl
-turned_balance m d e false = refl
+turned_balance m d e b = refl
 
 checked_balance : (m : Latch Executed) (d : Decoded) (o : Result Executed Cause) → Executes Moves m (Full d) (checked d.address d.guess o)
 checked_balance m d (Err c) = refl
@@ -57,11 +53,9 @@ checked_balance m d (Ok e) = turned_balance m d e (eqb e.next d.guess)
 execute_balance : (flow : Flow) (m : Latch Executed) (x : Latch Decoded) → Executes flow m x (execute_stage m x flow)
 execute_balance RollsBack m x = omega arith
 execute_balance Stays m Empty = omega arith
-execute_balance Stays m (Faulting stop) = omega arith
-execute_balance Stays m (Full d) = omega arith
-execute_balance Moves m Empty = refl
-execute_balance Moves m (Faulting stop) = refl
+execute_balance Stays m x = omega arith
 execute_balance Moves m (Full d) = checked_balance m d (execute d)
+execute_balance Moves m x = refl
 
 -- X has what stayed there and what D gave; D is dropped after any rollback
 abbrev Decodes : Flow → Latch Decoded → Latch Fetched → DecodeOut → Type 0
@@ -69,8 +63,7 @@ Decodes flow x d o = occupied o.x + staying o.flow d + if_rolled flow (occupied 
 
 with_balance : (x : Latch Decoded) (f : Fetched) (i : Instruction) (a b : Option ℕ) → Decodes Moves x (Full f) (with_operands f i a b)
 with_balance x f i (Some a) (Some b) = refl
-with_balance x f i (Some a) None = refl
-with_balance x f i None b = refl
+with_balance x f i a b = refl
 
 word_balance : (h : Register → Option ℕ) (x : Latch Decoded) (f : Fetched) (o : Result Instruction Cause) → Decodes Moves x (Full f) (decode_word h f o)
 word_balance h x f (Err c) = refl
@@ -79,18 +72,14 @@ word_balance h x f (Ok i) = with_balance x f i (source h (first_source i)) (sour
 decode_balance : (h : Register → Option ℕ) (flow : Flow) (x : Latch Decoded) (d : Latch Fetched) → Decodes flow x d (decode_stage h x d flow)
 decode_balance h RollsBack x d = omega arith
 decode_balance h Stays x Empty = omega arith
-decode_balance h Stays x (Faulting stop) = omega arith
-decode_balance h Stays x (Full f) = omega arith
-decode_balance h Moves x Empty = refl
-decode_balance h Moves x (Faulting stop) = refl
+decode_balance h Stays x d = omega arith
 decode_balance h Moves x (Full f) = word_balance h x f f.issued
+decode_balance h Moves x d = refl
 
 -- D has what stayed there and what is fetched
 placed_balance : (f : ℕ) (asked : Result (Option Request) Cause) (x : Option Fetched) → occupied (fetches_on f asked x).d ≡ one_if (has_fetched asked x)
-placed_balance f (Err c) x = refl
-placed_balance f (Ok None) x = refl
 placed_balance f (Ok (Some q)) None = refl
-placed_balance f (Ok (Some q)) (Some x) = refl
+placed_balance f asked x = refl
 
 fetch_balance : (text f : ℕ) (d : Latch Fetched) (flow : Flow) (x : Option Fetched) (u : Option ℕ)
     → occupied (fetch_stage f d flow (fetching text f flow) x u).d ≡ staying flow d + one_if (has_fetched (fetching text f flow) x)
@@ -113,9 +102,8 @@ module _ (size text : ℕ) (g : Registers) (k : Latches) (reply : Option Reply) 
       omega arith
 
 rolled_most : (flow : Flow) (n : ℕ) → if_rolled flow n ≤ n
-rolled_most Moves n = omega arith
-rolled_most Stays n = omega arith
 rolled_most RollsBack n = omega arith
+rolled_most flow n = omega arith
 
 -- no more are dropped than stand in the latches
 pub dropped_most : (k : Latches) (p q : Flow) → dropped k p q ≤ in_flight_count k

@@ -35,10 +35,9 @@ faults_on h k same (Ok s) stop i = (i.0, same s stop.cause i.1)
 
 -- the latch holds what the state's instruction comes to; past a break nothing is said
 abbrev pub Holds : {T : Type 0} → (State → T → Result T Cause) → (State → Result T Cause) → Reach → Latch T → Type 0
-Holds f h r Empty = Unit {0}
 Holds f h r (Faulting stop) = Faults h r stop
-Holds f h (Err z) (Full x) = Unit {0}
 Holds f h (Ok s) (Full x) = Ok x ≡ f s x
+Holds f h r l = Unit {0}
 
 -- where the chain goes behind the latch
 abbrev pub behind : {T : Type 0} → (T → State → Reach) → Reach → Latch T → Reach
@@ -62,9 +61,8 @@ guessed g s = cond (eqb s.address g) (Ok s) (Err FetchOutside)
 
 -- W does not stop the machine
 abbrev pub Flows : Latch Completed → Type 0
-Flows Empty = Unit {0}
 Flows (Faulting stop) = ⊥
-Flows (Full c) = Unit {0}
+Flows w = Unit {0}
 
 module _ (world : World) where
   abbrev pub HoldsD : Reach → Latch Fetched → Type 0

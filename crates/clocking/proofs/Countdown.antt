@@ -3,7 +3,7 @@ use Rattle.std.proofs.Common.{◌≡◌, ℕ, ◌+◌, ◌%◌, ◌<◌, ◌≤�
 use Rattle.base.specs.declared.bus.Request.{Request}
 use Rattle.base.specs.declared.bus.Request.TheVariants.{Read}
 use Rattle.memory.specs.Meaning.{Reply}
-use Rattle.memory.specs.declared.Answer.TheVariants.{Word, Done as Did}
+use Rattle.memory.specs.declared.Answer.TheVariants.{Word}
 use Rattle.memory.specs.declared.Unserved.TheVariants.{Wait, Outside}
 use Rattle.rv32i.specs.declared.cause.Cause.{Cause}
 use Rattle.rv32i.specs.declared.register.Register.{Register}
@@ -37,27 +37,17 @@ fetch_waits t text f = waits_for t (sent (fetching text f Moves))
 
 -- size and text are the memories' sizes, most the data memory's longest wait, p and t the waits left for a request
 abbrev pub count : ℕ → ℕ → ℕ → (Request → ℕ) → (Request → ℕ) → Latch Completed → Latch Executed → Latch Decoded → Latch Fetched → ℕ → ℕ
-count size text most p t (Full c) m x d f = 1
-count size text most p t (Faulting stop) m x d f = 1
 count size text most p t Empty (Full e) x d f = 2 + waits_for p (sent (request size e.access e.result e.b))
 count size text most p t Empty (Faulting stop) x d f = 2
-count size text most p t Empty Empty (Full y) d f = 3 + most
-count size text most p t Empty Empty (Faulting stop) d f = 3 + most
-count size text most p t Empty Empty Empty (Full y) f = 4 + most
-count size text most p t Empty Empty Empty (Faulting stop) f = 4 + most
 count size text most p t Empty Empty Empty Empty f = 5 + most + fetch_waits t text f
+count size text most p t Empty Empty Empty d f = 4 + most
+count size text most p t Empty Empty x d f = 3 + most
+count size text most p t w m x d f = 1
 
 -- an empty pipeline behind W has just been told to wait for its next instruction
 abbrev pub Lulled : ℕ → ℕ → (Request → ℕ) → Latch Completed → Latch Executed → Latch Decoded → Latch Fetched → ℕ → Type 0
-Lulled text least t Empty m x d f = Unit {0}
-Lulled text least t (Faulting stop) m x d f = Unit {0}
-Lulled text least t (Full c) (Full e) x d f = Unit {0}
-Lulled text least t (Full c) (Faulting stop) x d f = Unit {0}
-Lulled text least t (Full c) Empty (Full y) d f = Unit {0}
-Lulled text least t (Full c) Empty (Faulting stop) d f = Unit {0}
-Lulled text least t (Full c) Empty Empty (Full y) f = Unit {0}
-Lulled text least t (Full c) Empty Empty (Faulting stop) f = Unit {0}
 Lulled text least t (Full c) Empty Empty Empty f = fetch_waits t text f < least
+Lulled text least t w m x d f = Unit {0}
 
 -- ---- where X and M are empty there is no hazard
 
@@ -67,17 +57,15 @@ Ready None = ⊥
 
 abbrev Filled : {T : Type 0} → Latch T → Type 0
 Filled Empty = ⊥
-Filled (Faulting stop) = Unit {0}
-Filled (Full x) = Unit {0}
+Filled l = Unit {0}
 
 ready_by : (b : Bool) (v w : ℕ) → Ready (or_else (cond b (Some (Some v)) None) (Some w))
 ready_by true v w = tt
-ready_by false v w = tt
+ready_by b v w = tt
 
 ready : (answer w : Latch Completed) (g : Registers) (r : Register) → Ready (values_in_flight Empty Empty answer w g r)
-ready answer Empty g r = tt
-ready answer (Faulting stop) g r = tt
 ready answer (Full c) g r = ready_by (gives c.rd r) c.value (value_of g r)
+ready answer w g r = tt
 
 ready_source : (h : Register → Option ℕ) → ((r : Register) → Ready (h r)) → (o : Option Register) → Ready (source h o)
 ready_source h k None = tt
@@ -113,20 +101,15 @@ module _ (size text most least : ℕ) (p p' t t' : Request → ℕ) (small : (q 
 
   filled_x : (x : Latch Decoded) (d : Latch Fetched) (f : ℕ) → Filled x → after Empty Empty x d f ≡ 3 + most
   filled_x Empty d f h = absurd h
-  filled_x (Faulting stop) d f h = refl
-  filled_x (Full y) d f h = refl
+  filled_x x d f h = refl
 
   -- an instruction in M goes to W, or waits
   by_m : (e : Executed) (x x' : Latch Decoded) (d' : Latch Fetched) (f' : ℕ) (o : Result (Option Request) Cause) (r : Option Reply) → Worn r (sent (request size e.access e.result e.b)) p p'
       → after (told e o r).w (execute_stage (Full e) x (told e o r).flow).m x' d' f' < 2 + waits_for p (sent (request size e.access e.result e.b))
-  by_m e x x' d' f' (Err c) r h = omega arith
-  by_m e x x' d' f' (Ok q) None h = omega arith
-  by_m e x x' d' f' (Ok q) (Some (Ok (Word w))) h = omega arith
-  by_m e x x' d' f' (Ok q) (Some (Ok Did)) h = omega arith
-  by_m e x x' d' f' (Ok q) (Some (Err Outside)) h = omega arith
   by_m e Empty x' d' f' (Ok q) (Some (Err Wait)) h = omega arith
-  by_m e (Faulting stop) x' d' f' (Ok q) (Some (Err Wait)) h = omega arith
-  by_m e (Full y) x' d' f' (Ok q) (Some (Err Wait)) h = omega arith
+  by_m e x x' d' f' (Ok q) (Some (Err Wait)) h = omega arith
+  by_m e x x' d' f' (Ok q) (Some (Ok (Word w))) h = omega arith
+  by_m e x x' d' f' o r h = omega arith
 
   -- one in X goes to M
   by_turn : (e : Executed) (b : Bool) (x' : Latch Decoded) (d' : Latch Fetched) (f' : ℕ) → after Empty (turned e b).m x' d' f' < 3 + most
@@ -143,8 +126,7 @@ module _ (size text most least : ℕ) (p p' t t' : Request → ℕ) (small : (q 
 
   filled_d : (d : Latch Fetched) (f : ℕ) → Filled d → after Empty Empty Empty d f ≡ 4 + most
   filled_d Empty f h = absurd h
-  filled_d (Faulting stop) f h = refl
-  filled_d (Full y) f h = refl
+  filled_d d f h = refl
 
   waits_few : (q : Option Request) → waits_for t q ≤ least
   waits_few None = omega arith
@@ -156,17 +138,15 @@ module _ (size text most least : ℕ) (p p' t t' : Request → ℕ) (small : (q 
     Arrived o = Filled o.d ⊎ ((o.d ≡ Empty) × (o.f ≡ f) × (fetch_waits t' text f < fetch_waits t text f))
 
     asked : (a : Option Reply) → eqb (f % 4) 0 ≡ true → ltb f text ≡ true → Bytes text (Some (Read f)) a u v → Worn a (Some (Read f)) t t' → Arrived (fetches_on f (Ok (Some (Read f))) (arrival table q f a))
-    asked None e i h w = absurd h
     asked (Some (Ok (Word x))) e i h w = inl tt
-    asked (Some (Ok Did)) e i h w = absurd h
     asked (Some (Err Wait)) e i h w = inr (refl, refl, rw (asks_read t text f e i, asks_read t' text f e i) w)
     asked (Some (Err Outside)) e i h w = absurd (both_ways _ h.0 (and_from _ _ e i))
+    asked a e i h w = absurd h
 
     arrived_by : (a : Option Reply) (b d : Bool) → eqb (f % 4) 0 ≡ b → ltb f text ≡ d → Bytes text (sent (asked_if f b d)) a u v
         → Worn a (sent (asked_if f b d)) t t' → Arrived (fetches_on f (asked_if f b d) (arrival table q f a))
     arrived_by a true true e i h w = asked a e i h w
-    arrived_by a true false e i h w = inl tt
-    arrived_by a false d e i h w = inl tt
+    arrived_by a b d e i h w = inl tt
 
     arrived : (a : Option Reply) → Bytes text (sent (fetching text f Moves)) a u v → Worn a (sent (fetching text f Moves)) t t' → Arrived (fetches_on f (fetching text f Moves) (arrival table q f a))
     arrived a h w = arrived_by a (eqb (f % 4) 0) (ltb f text) refl refl h w
@@ -185,8 +165,7 @@ module _ (size text most least : ℕ) (p p' t t' : Request → ℕ) (small : (q 
       where
         lulled_full : (d : Latch Fetched) (f : ℕ) (c : Completed) → Filled d → Lulled text least t' (Full c) Empty Empty d f
         lulled_full Empty f c h = absurd h
-        lulled_full (Faulting stop) f c h = tt
-        lulled_full (Full y) f c h = tt
+        lulled_full d f c h = tt
     lulled_by o c (inr h) = rw (h.0, h.1) (let k = h.2 in let m = waits_few (sent (fetching text f Moves)) in omega arith)
 
   -- ---- one clock
@@ -205,12 +184,10 @@ module _ (size text most least : ℕ) (p p' t t' : Request → ℕ) (small : (q 
     falls : (f : ℕ) (d : Latch Fetched) (x : Latch Decoded) (m : Latch Executed) → Worn reply (sent (data_request size m)) p p' → TextAsked (record { f = f; d = d; x = x; m = m; w = Empty })
         → ends_at (record { f = f; d = d; x = x; m = m; w = Empty }) < count size text most p t Empty m x d f
     falls f d x (Full e) h w = by_m e x _ _ _ (request size e.access e.result e.b) reply h
-    falls f d x (Faulting stop) h w = omega arith
     falls f d (Full y) Empty h w = by_x y.address y.guess (execute y) _ _ _
-    falls f d (Faulting stop) Empty h w = omega arith
     falls f (Full y) Empty Empty h w = by_d _ _ _ (fills _ (ready Empty Empty g) y y.issued)
-    falls f (Faulting stop) Empty Empty h w = omega arith
     falls f Empty Empty Empty h w = falls_by table q f u v _ (arrived table q f u v answer w.0 w.1)
+    falls f d x m h w = omega arith
 
     -- a clock in which one retires
     bounds : (f : ℕ) (d : Latch Fetched) (x : Latch Decoded) (m : Latch Executed) (c : Completed) → Worn reply (sent (data_request size m)) p p'
@@ -225,16 +202,14 @@ module _ (size text most least : ℕ) (p p' t t' : Request → ℕ) (small : (q 
         waits_old : (q : Option Request) → waits_for p q ≤ most
         waits_old None = omega arith
         waits_old (Some q) = s q
-    bounds f d x (Faulting stop) c h w l s = omega arith
     bounds f d (Full y) Empty c h w l s =
         let k : ends_at (record { f = f; d = d; x = Full y; m = Empty; w = Full c }) < 3 + most = by_x y.address y.guess (execute y) _ _ _ in
         omega arith
-    bounds f d (Faulting stop) Empty c h w l s = omega arith
     bounds f (Full y) Empty Empty c h w l s =
         let k : ends_at (record { f = f; d = Full y; x = Empty; m = Empty; w = Full c }) < 4 + most = by_d _ _ _ (fills _ (ready Empty (Full c) g) y y.issued) in
         omega arith
-    bounds f (Faulting stop) Empty Empty c h w l s = omega arith
     bounds f Empty Empty Empty c h w l s = bounds_by table q f u v _ (arrived table q f u v answer w.0 w.1) l
+    bounds f d x m c h w l s = omega arith
 
     pub down : (f : ℕ) (d : Latch Fetched) (x : Latch Decoded) (m : Latch Executed) (w : Latch Completed) → Flows w → Worn reply (sent (data_request size m)) p p'
         → TextAsked (record { f = f; d = d; x = x; m = m; w = w }) → Lulled text least t w m x d f → ((r : Request) → p r ≤ most)
@@ -262,12 +237,11 @@ module _ (size text most least : ℕ) (p p' t t' : Request → ℕ) (small : (q 
 
     lull_m : (c : Completed) (m : Latch Executed) (x : Latch Decoded) (d : Latch Fetched) (f : ℕ) → Filled m → Lulled text least t' (Full c) m x d f
     lull_m c Empty x d f h = absurd h
-    lull_m c (Faulting stop) x d f h = tt
-    lull_m c (Full e) x d f h = tt
+    lull_m c m x d f h = tt
 
     fills_turn : (e : Executed) (b : Bool) → Filled (turned e b).m
     fills_turn e true = tt
-    fills_turn e false = tt
+    fills_turn e b = tt
 
     fills_m : (a n : ℕ) (o : Result Executed Cause) → Filled (checked a n o).m
     fills_m a n (Err c) = tt
@@ -281,8 +255,7 @@ module _ (size text most least : ℕ) (p p' t t' : Request → ℕ) (small : (q 
 
     kept_with : (c : Completed) (f : ℕ) (y : Fetched) (i : Instruction) (a b : Option ℕ) → KeptFull c f y (with_operands y i a b)
     kept_with c f y i (Some a) (Some b) = tt
-    kept_with c f y i (Some a) None = tt
-    kept_with c f y i None b = tt
+    kept_with c f y i a b = tt
 
     kept_word : (h : Register → Option ℕ) (c : Completed) (f : ℕ) (y : Fetched) (o : Result Instruction Cause) → KeptFull c f y (decode_word h y o)
     kept_word h c f y (Err z) = tt
@@ -292,39 +265,29 @@ module _ (size text most least : ℕ) (p p' t t' : Request → ℕ) (small : (q 
     lull_by : (f : ℕ) (d : Latch Fetched) (x : Latch Decoded) (e : Executed) (w : Latch Completed) (c : Completed)
         → TextBy (record { f = f; d = d; x = x; m = Full e; w = w }) (record { w = Full c; flow = Moves }) → Lulls (record { f = f; d = d; x = x; m = Full e; w = w }) (record { w = Full c; flow = Moves })
     lull_by f d (Full y) e w c h = lull_m c (checked y.address y.guess (execute y)).m _ _ _ (fills_m y.address y.guess (execute y))
-    lull_by f d (Faulting stop) e w c h = tt
     lull_by f (Full y) Empty e w c h = kept_word _ c f y y.issued
-    lull_by f (Faulting stop) Empty e w c h = tt
     lull_by f Empty Empty e w c h = lulled_by table q f u v _ c (arrived table q f u v answer h.0 h.1)
+    lull_by f d x e w c h = tt
 
     lull_told : (f : ℕ) (d : Latch Fetched) (x : Latch Decoded) (e : Executed) (w : Latch Completed) (o : Result (Option Request) Cause) (r : Option Reply)
         → TextBy (record { f = f; d = d; x = x; m = Full e; w = w }) (told e o r) → Lulls (record { f = f; d = d; x = x; m = Full e; w = w }) (told e o r)
     lull_told f d x e w (Err c) r h = tt
-    lull_told f d x e w (Ok n) None h = lull_by f d x e w (complete e e.result) h
-    lull_told f d x e w (Ok n) (Some (Ok (Word v))) h = lull_by f d x e w (complete e (loaded e.access e.result v)) h
-    lull_told f d x e w (Ok n) (Some (Ok Did)) h = lull_by f d x e w (complete e e.result) h
     lull_told f d x e w (Ok n) (Some (Err Wait)) h = tt
-    lull_told f d x e w (Ok n) (Some (Err Outside)) h = lull_by f d x e w (complete e e.result) h
+    lull_told f d x e w (Ok n) (Some (Ok (Word v))) h = lull_by f d x e w (complete e (loaded e.access e.result v)) h
+    lull_told f d x e w (Ok n) r h = lull_by f d x e w (complete e e.result) h
 
     pub lulls : (f : ℕ) (d : Latch Fetched) (x : Latch Decoded) (m : Latch Executed) (w : Latch Completed) → TextAsked (record { f = f; d = d; x = x; m = m; w = w })
         → let n : Latches = latches_after size text g (record { f = f; d = d; x = x; m = m; w = w }) reply (arrival table q f answer) in
         Lulled text least t' n.w n.m n.x n.d n.f
-    lulls f d x Empty w h = tt
-    lulls f d x (Faulting stop) w h = tt
     lulls f d x (Full e) w h = lull_told f d x e w (request size e.access e.result e.b) reply h
+    lulls f d x m w h = tt
 
 -- ---- what it can be at most, and that it is never 0
 
 pub least_one : (size text most : ℕ) (p t : Request → ℕ) (w : Latch Completed) (m : Latch Executed) (x : Latch Decoded) (d : Latch Fetched) (f : ℕ) → 1 ≤ count size text most p t w m x d f
-least_one size text most p t (Full c) m x d f = omega arith
-least_one size text most p t (Faulting stop) m x d f = omega arith
 least_one size text most p t Empty (Full e) x d f = omega arith
-least_one size text most p t Empty (Faulting stop) x d f = omega arith
-least_one size text most p t Empty Empty (Full y) d f = omega arith
-least_one size text most p t Empty Empty (Faulting stop) d f = omega arith
-least_one size text most p t Empty Empty Empty (Full y) f = omega arith
-least_one size text most p t Empty Empty Empty (Faulting stop) f = omega arith
 least_one size text most p t Empty Empty Empty Empty f = omega arith
+least_one size text most p t w m x d f = omega arith
 
 -- of a machine that has just been loaded
 pub at_first : (size text most least : ℕ) (p t : Request → ℕ) → ((q : Request) → t q ≤ least) → (f : ℕ) → count size text most p t Empty Empty Empty Empty f ≤ 5 + most + least

@@ -12,7 +12,7 @@ use Rattle.clocking.specs.declared.latch.Executed.{Executed}
 use Rattle.clocking.specs.declared.latch.Latch.{Latch}
 use Rattle.clocking.specs.declared.latch.Latch.TheVariants.{Empty, Faulting, Full}
 use Rattle.clocking.specs.declared.stage.Flow.{Flow}
-use Rattle.clocking.specs.declared.stage.Flow.TheVariants.{Moves, Stays, RollsBack}
+use Rattle.clocking.specs.declared.stage.Flow.TheVariants.{Stays, RollsBack}
 use Rattle.std.proofs.lemmas.Bool.{both_ways}
 use Rattle.rv32i.specs.Effects.{request, loaded}
 use Rattle.rv32i.proofs.Laws.{InRange, in_range}
@@ -25,38 +25,30 @@ use Rattle.clocking.proofs.Served.{Bytes}
 
 -- what is still in M after the stage
 abbrev pub left : Flow → Latch Executed → Latch Executed
-left Moves m = Empty
 left Stays m = m
-left RollsBack m = Empty
+left flow m = Empty
 
 abbrev pub Back : Flow → Reach → Type 0
-Back Moves r = Unit {0}
-Back Stays r = Unit {0}
 Back RollsBack r = Broken r
+Back flow r = Unit {0}
 
 -- what the reply makes of M is what the instruction comes to
 abbrev Completes : State → (ℕ → ℕ) → Executed → ℕ → Result Done Cause → Type 0
 Completes s n e v o = (Ok (complete e v) ≡ then o (λ d. Ok (complete d.run d.value))) × (n ≡ bytes_at s (then o (λ d. Ok (moved s d))))
 
 abbrev Good : State → (ℕ → ℕ) → Executed → Option Reply → Result Done Cause → Type 0
-Good s n e None o = Completes s n e e.result o
 Good s n e (Some (Ok (Word w))) o = Completes s n e (loaded e.access e.result w) o
-Good s n e (Some (Ok Did)) o = Completes s n e e.result o
 Good s n e (Some (Err Wait)) o = n ≡ s.bytes
 Good s n e (Some (Err Outside)) o = ⊥
+Good s n e t o = Completes s n e e.result o
 
 good_by : (size : ℕ) (s : State) (n : ℕ → ℕ) (e : Executed) (q : Option Request) → InRange size (Ok q) → (t : Option Reply) → Bytes size q t s.bytes n → Good s n e t (settled_by s.bytes e (Ok q))
 good_by size s n e None i None h = (refl, h)
-good_by size s n e None i (Some r) h = absurd h
-good_by size s n e (Some q) i None h = absurd h
 good_by size s n e (Some (Read a)) i (Some (Ok (Word w))) h = rw h.1 (refl, h.2)
-good_by size s n e (Some (Read a)) i (Some (Ok Did)) h = absurd h
-good_by size s n e (Some (Read a)) i (Some (Err Wait)) h = h
-good_by size s n e (Some (Read a)) i (Some (Err Outside)) h = absurd (both_ways _ h.0 i)
-good_by size s n e (Some (Write a v l)) i (Some (Ok (Word w))) h = absurd h
 good_by size s n e (Some (Write a v l)) i (Some (Ok Did)) h = (refl, h.1)
-good_by size s n e (Some (Write a v l)) i (Some (Err Wait)) h = h
-good_by size s n e (Some (Write a v l)) i (Some (Err Outside)) h = absurd (both_ways _ h.0 i)
+good_by size s n e (Some q) i (Some (Err Wait)) h = h
+good_by size s n e (Some q) i (Some (Err Outside)) h = absurd (both_ways _ h.0 i)
+good_by size s n e q i t h = absurd h
 
 pub idle_same : (size : ℕ) (t : Option Reply) (m n : ℕ → ℕ) → Bytes size None t m n → n ≡ m
 idle_same size None m n h = h
@@ -136,9 +128,7 @@ module _ (world : World) where
         }
 
     placed : (t : Option Reply) → Good s n e t (done_at world s) → DataKept s (Full e) n (answered e t)
-    placed None h = finishes e.result h
     placed (Some (Ok (Word w))) h = finishes (loaded e.access e.result w) h
-    placed (Some (Ok Did)) h = finishes e.result h
     placed (Some (Err Wait)) h = record {
       w = tt;
       memory = h;
@@ -148,6 +138,7 @@ module _ (world : World) where
       source = λ f k. known_wait s e (after_at world s) (rw i (runs world s)) f k;
     }
     placed (Some (Err Outside)) h = absurd h
+    placed t h = finishes e.result h
 
     stays_so : (c : Cause) (r : Reach) → Pairs s (Err c) r → n ≡ s.bytes → n ≡ bytes_at s r
     stays_so c (Err k) p h = h

@@ -1,5 +1,5 @@
 -- The decode stage keeps the chain. Assumes nothing.
-use Rattle.std.proofs.Common.{◌≡◌, ℕ, Some, None, Ok, Err, Option, Result, sym, refl, ap, ◌∙◌}
+use Rattle.std.proofs.Common.{◌≡◌, ℕ, Some, Ok, Err, Option, Result, sym, refl, ap, ◌∙◌}
 use Rattle.rv32i.specs.declared.cause.Cause.{Cause}
 use Rattle.rv32i.specs.declared.register.Register.{Register}
 use Rattle.sequential.specs.Sequential.{State, World, then}
@@ -23,8 +23,7 @@ use Rattle.clocking.proofs.Partial.{operated, fetched_at, decoded_at, executed_a
 
 abbrev pub SourcedRead : Flow → (Register → Option ℕ) → Reach → Type 0
 SourcedRead Moves f r = KnownRead f r
-SourcedRead Stays f r = Unit {0}
-SourcedRead RollsBack f r = Unit {0}
+SourcedRead flow f r = Unit {0}
 
 module _ (world : World) where
   abbrev fetch_at : State → Result ℕ Cause
@@ -82,8 +81,7 @@ module _ (world : World) where
         → ((v : ℕ) → x ≡ Some v → v ≡ operand s.registers (first_source i)) → ((v : ℕ) → y ≡ Some v → v ≡ operand s.registers (second_source i))
         → DecodeKept (Ok s) (Ok s) (Full f) u (with_operands f i x y)
     both s f i z q (Some a) (Some b) h k = record { x = rw (decoded_so s f z f.guess, q, h a refl, k b refl, z.here); rests = refl }
-    both s f i z q (Some a) None h k = record { x = tt; rests = refl }
-    both s f i z q None b h k = record { x = tt; rests = refl }
+    both s f i z q x y h k = record { x = tt; rests = refl }
 
     issues_none : (s : State) (f : Fetched) (c : Cause) → WordOf s f → f.issued ≡ Err c → Err c ≡ decoded_at world s 0
     issues_none s f c z q = rw (decoded_so s f z 0, q)
@@ -94,8 +92,7 @@ module _ (world : World) where
 
     both_broken : (c : Cause) (f : Fetched) (i : Instruction) (x y : Option ℕ) → DecodeKept (Err c) (Err c) (Full f) u (with_operands f i x y)
     both_broken c f i (Some a) (Some b) = record { x = tt; rests = refl }
-    both_broken c f i (Some a) None = record { x = tt; rests = refl }
-    both_broken c f i None b = record { x = tt; rests = refl }
+    both_broken c f i x y = record { x = tt; rests = refl }
 
     by_broken : (c : Cause) (f : Fetched) (o : Result Instruction Cause) → DecodeKept (Err c) (Err c) (Full f) u (decode_word reads f o)
     by_broken c f (Err z) = record { x = tt; rests = refl }
@@ -109,8 +106,7 @@ module _ (world : World) where
 
     stays_kept : (r : Reach) (x : Latch Decoded) (d : Latch Fetched) → HoldsX world r x → DecodeKept r (behindX world r x) d u (decode_stays x d)
     stays_kept r x Empty h = record { x = h; rests = refl }
-    stays_kept r x (Faulting stop) h = record { x = h; rests = refl }
-    stays_kept r x (Full f) h = record { x = h; rests = refl }
+    stays_kept r x d h = record { x = h; rests = refl }
 
     pub decode_kept : (flow : Flow) (r q : Reach) (x : Latch Decoded) (d : Latch Fetched) → HoldsX world r x → HoldsD world (behindX world r x) d → Onward world flow u r x q
         → SourcedRead flow reads (behindX world r x) → DecodeKept q (behindX world r x) d u (decode_stage reads x d flow)

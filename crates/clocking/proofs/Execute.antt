@@ -19,7 +19,7 @@ use Rattle.clocking.proofs.Partial.{decoded_at, executed_at, after_at}
 
 known_guessed_by : (f : Register → Option ℕ) (t : State) (b : Bool) → Known f (Ok t) → Known f (cond b (Ok t) (Err FetchOutside))
 known_guessed_by f t true k = k
-known_guessed_by f t false k = tt
+known_guessed_by f t b k = tt
 
 known_x : (s : State) (e : Executed) (g : ℕ) (r : Reach) → Runs s (Ok e) r → (f : Register → Option ℕ) → Known f (Ok s)
     → Known (layer e.rd (early e.access e.result) f) (then r (guessed g))
@@ -38,7 +38,7 @@ turns_off s e (Ok t) w = sym w.address
 
 known_broken : (f : Register → Option ℕ) (c : Cause) (r : Reach) → Known f (then r (λ s. Err c))
 known_broken f c (Err z) = tt
-known_broken f c (Ok s) = tt
+known_broken f c r = tt
 
 -- where fetching goes on after a rollback
 abbrev pub Turned : Option ℕ → Reach → Type 0
@@ -48,8 +48,7 @@ Turned (Some n) q = Leads n q
 -- what D reads, where it may move on
 abbrev pub Sourced : Flow → (Register → Option ℕ) → Reach → Type 0
 Sourced Moves f r = Known f r
-Sourced Stays f r = Unit {0}
-Sourced RollsBack f r = Unit {0}
+Sourced flow f r = Unit {0}
 
 module _ (world : World) where
   -- the state reached behind M, once X has moved, against the one behind M before
@@ -107,8 +106,7 @@ module _ (world : World) where
       → HoldsX world (behindM world r (left flow m)) x → ExecuteKept flow r (left flow m) x (execute_stage m x flow)
   execute_kept RollsBack r m x hb hm hx = record { m = tt; onward = hb; source = λ f k. tt }
   execute_kept Stays r m Empty hb hm hx = record { m = hm; onward = refl; source = λ f k. k }
-  execute_kept Stays r m (Faulting stop) hb hm hx = record { m = hm; onward = refl; source = λ f k. tt }
-  execute_kept Stays r m (Full d) hb hm hx = record { m = hm; onward = refl; source = λ f k. tt }
+  execute_kept Stays r m x hb hm hx = record { m = hm; onward = refl; source = λ f k. tt }
   execute_kept Moves r m Empty hb hm hx = record { m = tt; onward = refl; source = λ f k. k }
   execute_kept Moves r m (Faulting stop) hb hm hx = record { m = faults_on _ _ faulting_so r stop hx; onward = refl; source = λ f k. known_broken _ stop.cause r }
   execute_kept Moves (Err z) m (Full d) hb hm hx = checked_broken z d (execute d)

@@ -4,7 +4,7 @@ use Rattle.base.specs.Bytes.{within, word}
 use Rattle.base.specs.declared.bus.Request.{Request}
 use Rattle.base.specs.declared.bus.Request.TheVariants.{Read}
 use Rattle.memory.specs.Meaning.{Reply}
-use Rattle.memory.specs.declared.Answer.TheVariants.{Word, Done as Did}
+use Rattle.memory.specs.declared.Answer.TheVariants.{Word}
 use Rattle.sequential.specs.Sequential.{State, World, then}
 use Rattle.clocking.specs.declared.latch.Fetched.{Fetched}
 use Rattle.clocking.specs.declared.latch.Latch.{Latch}
@@ -43,10 +43,8 @@ asked_if f b d = cond b (cond d (Ok (Some (Read f))) (Err FetchOutside)) (Err Ju
 -- what arrives is the word that was read, whatever the guess
 abbrev pub Arrives : ℕ → Option Reply → Option Fetched → Type 0
 Arrives f t None = Unit {0}
-Arrives f None (Some x) = ⊥
 Arrives f (Some (Ok (Word w))) (Some x) = (x.address ≡ f) × (x.word ≡ w) × (x.issued ≡ issued w)
-Arrives f (Some (Ok Did)) (Some x) = ⊥
-Arrives f (Some (Err u)) (Some x) = ⊥
+Arrives f t (Some x) = ⊥
 
 module _ (world : World) where
   pub record FetchKept (q : Reach) (o : FetchOut) : Type 0 where
@@ -67,14 +65,12 @@ module _ (world : World) where
   inside s g e = let p = and_parts (eqb (s.address % 4) 0) (ltb s.address world.text_size) e in rw (p.0, p.1)
 
   arrives_at : (s : State) (f : ℕ) (x : Fetched) (t : Option Reply) (n : ℕ → ℕ) → Bytes world.text_size (Some (Read f)) t world.text n → Arrives f t (Some x) → f ≡ s.address → Ok x ≡ fetched_at world s x.guess
-  arrives_at s f x None n h a l = absurd h
-  arrives_at s f x (Some (Ok Did)) n h a l = absurd h
-  arrives_at s f x (Some (Err u)) n h a l = absurd a
   arrives_at s f x (Some (Ok (Word w))) n h a l =
       let v : w ≡ word world.text s.address = rw l at h.1 in
       let same : x ≡ record { address = s.address; word = word world.text s.address; issued = issued (word world.text s.address); guess = x.guess } =
       λ i. record { address = (a.0 ∙ l) i; word = (a.1 ∙ v) i; issued = (a.2 ∙ ap issued v) i; guess = x.guess } in
       ap (λ (y : Fetched). Ok y) same ∙ inside s x.guess (rw l at h.0)
+  arrives_at s f x t n h a l = absurd a
 
   by_ask : (q : Reach) (f : ℕ) (t : Option Reply) (x : Option Fetched) (n : ℕ → ℕ) → Bytes world.text_size (Some (Read f)) t world.text n → Arrives f t x → Leads f q → FetchKept q (fetches_on f (Ok (Some (Read f))) x)
   by_ask q f t None n h a l = record { d = tt; f = l }
@@ -85,10 +81,9 @@ module _ (world : World) where
       → Bytes world.text_size (sent (asked_if f b d)) t world.text n → Arrives f t x → Leads f q
       → FetchKept q (fetches_on f (asked_if f b d) x)
   by_size q f t x n true true e i h a l = by_ask q f t x n h a l
-  by_size (Err c) f t x n true false e i h a l = record { d = tt; f = tt }
   by_size (Ok s) f t x n true false e i h a l = record { d = (l, outside s (rw l at e) (rw l at i)); f = tt }
-  by_size (Err c) f t x n false d e i h a l = record { d = tt; f = tt }
   by_size (Ok s) f t x n false d e i h a l = record { d = (l, misaligned s (rw l at e)); f = tt }
+  by_size (Err c) f t x n b d e i h a l = record { d = tt; f = tt }
 
   pub fetch_kept : (flow : Flow) (f : ℕ) (d : Latch Fetched) (t : Option Reply) (x : Option Fetched) (u : Option ℕ) (n : ℕ → ℕ) (r q : Reach)
       → Bytes world.text_size (sent (fetching world.text_size f flow)) t world.text n → Arrives f t x → HoldsD world r d → Leads f (behindD world r d) → Rests world flow u r d q

@@ -79,9 +79,8 @@ known_read f (Ok s) k = known_source f s k
 -- what completes writes its value; what does not leads nowhere
 abbrev pub Pairs : State → Result Completed Cause → Reach → Type 0
 Pairs s (Err c) (Err k) = k ≡ c
-Pairs s (Err c) (Ok t) = ⊥
-Pairs s (Ok f) (Err k) = ⊥
 Pairs s (Ok f) (Ok t) = t.registers ≡ written s.registers f.rd f.value
+Pairs s o r = ⊥
 
 -- t follows s by the executed instruction: what it gives early is its value in the end
 pub record Follows (s : State) (e : Executed) (t : State) : Type 0 where
@@ -91,10 +90,9 @@ pub record Follows (s : State) (e : Executed) (t : State) : Type 0 where
   pub address : t.address ≡ e.next
 
 abbrev pub Runs : State → Result Executed Cause → Reach → Type 0
-Runs s (Err c) (Err k) = Unit {0}
-Runs s (Err c) (Ok t) = ⊥
-Runs s (Ok e) (Err k) = Unit {0}
 Runs s (Ok e) (Ok t) = Follows s e t
+Runs s (Err c) (Ok t) = ⊥
+Runs s o r = Unit {0}
 
 pairs_done : (s : State) (o : Result Done Cause) → Pairs s (then o (λ d. Ok (complete d.run d.value))) (then o (λ d. Ok (moved s d)))
 pairs_done s (Err c) = refl
@@ -103,14 +101,12 @@ pairs_done s (Ok d) = refl
 -- only a load is answered a word
 abbrev Plain : Option Access → ℕ → Result (Option Request) Cause → Type 0
 Plain how x (Err c) = Unit {0}
-Plain how x (Ok None) = (v : ℕ) → early how x ≡ Some v → v ≡ x
 Plain how x (Ok (Some (Read a))) = (v w : ℕ) → early how x ≡ Some v → v ≡ w
-Plain how x (Ok (Some (Write a w l))) = (v : ℕ) → early how x ≡ Some v → v ≡ x
+Plain how x (Ok q) = (v : ℕ) → early how x ≡ Some v → v ≡ x
 
 plain_by : (how : Option Access) (x : ℕ) (q : Request) (misaligned outside : Cause) (b d : Bool) → Plain how x (Ok (Some q)) → Plain how x (cond b (cond d (Ok (Some q)) (Err outside)) (Err misaligned))
 plain_by how x q misaligned outside true true h = h
-plain_by how x q misaligned outside true false h = tt
-plain_by how x q misaligned outside false d h = tt
+plain_by how x q misaligned outside b d h = tt
 
 plain_so : (size : ℕ) (how : Option Access) (x b : ℕ) → Plain how x (request size how x b)
 unfolding request
@@ -126,9 +122,9 @@ plain_so size (Some (Store k)) x b =
 
 runs_by : (s : State) (e : Executed) (q : Result (Option Request) Cause) → Plain e.access e.result q → Runs s (Ok e) (then (settled_by s.bytes e q) (λ d. Ok (moved s d)))
 runs_by s e (Err c) h = tt
-runs_by s e (Ok None) h = record { value = e.result; registers = refl; plain = h; address = refl }
 runs_by s e (Ok (Some (Read a))) h = record { value = _; registers = refl; plain = λ v. h v _; address = refl }
 runs_by s e (Ok (Some (Write a w l))) h = record { value = e.result; registers = refl; plain = h; address = refl }
+runs_by s e (Ok None) h = record { value = e.result; registers = refl; plain = h; address = refl }
 
 runs_out : (size : ℕ) (s : State) (o : Result Executed Cause) → Runs s o (then (then o (settle size s.bytes)) (λ d. Ok (moved s d)))
 unfolding settle

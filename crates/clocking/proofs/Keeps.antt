@@ -10,7 +10,7 @@ use Rattle.clocking.specs.declared.latch.Completed.{Completed}
 use Rattle.clocking.specs.declared.latch.Latch.{Latch}
 use Rattle.clocking.specs.declared.latch.Latch.TheVariants.{Empty, Faulting, Full}
 use Rattle.clocking.specs.declared.stage.Flow.{Flow}
-use Rattle.clocking.specs.declared.stage.Flow.TheVariants.{Moves, Stays, RollsBack}
+use Rattle.clocking.specs.declared.stage.Flow.TheVariants.{Moves}
 use Rattle.rv32i.specs.Registers.{written}
 use Rattle.rv32i.specs.declared.registers.Registers.{Registers}
 use Rattle.clocking.specs.Clock.{written_back, completes, executes, reads, decodes, plans, fetches, latches_after}
@@ -32,7 +32,7 @@ retired_by false w x v h e = cc
 
 again : (b : Bool) (x w y : ℕ) → x ≡ cond b w y → x ≡ cond b w x
 again true x w y h = h
-again false x w y h = refl
+again b x w y h = refl
 
 retired_read : (g : Registers) (rd : Option Register) (w : ℕ) → Sized g → (r : Register) (v : ℕ)
     → or_else (cond (gives rd r) (Some (Some w)) None) (Some (value_of (written g rd w) r)) ≡ Some v → v ≡ value_of (written g rd w) r
@@ -44,8 +44,7 @@ retired_read g (Some d) w z r v e =
 
 sourced_read : (flow : Flow) (f : Register → Option ℕ) (r : Reach) → Sourced flow f r → SourcedRead flow f r
 sourced_read Moves f r k = known_read f r k
-sourced_read Stays f r k = tt
-sourced_read RollsBack f r k = tt
+sourced_read flow f r k = tt
 
 module _ (world : World) where
   -- what the sequential machine does where W retires

@@ -17,10 +17,8 @@ waits_for p (Some q) = p q
 
 -- a Wait lowers what is left
 abbrev pub Worn : Option Reply → Option Request → (Request → ℕ) → (Request → ℕ) → Type 0
-Worn None q p t = Unit {0}
-Worn (Some (Ok a)) q p t = Unit {0}
 Worn (Some (Err Wait)) q p t = waits_for t q < waits_for p q
-Worn (Some (Err Outside)) q p t = Unit {0}
+Worn r q p t = Unit {0}
 
 module _ {M : Type 0} (means : Meaning M) (law : Lawful means) where
   pub record Link (q : Option Request) (t : Option Reply) (m n : M) : Type 0 where

@@ -3,19 +3,14 @@ use Rattle.std.proofs.Common.{◌≡◌, ℕ, true, false, Some, None, Option, O
 use Rattle.base.specs.Bytes.{within, word, put}
 use Rattle.base.specs.declared.bus.Request.{Request}
 use Rattle.base.specs.declared.bus.Request.TheVariants.{Read, Write}
-use Rattle.memory.specs.Meaning.{Reply}
+use Rattle.memory.specs.Meaning.{Reply, place}
 use Rattle.memory.specs.declared.Answer.TheVariants.{Word, Done}
 use Rattle.memory.specs.declared.Unserved.TheVariants.{Wait, Outside}
 
 abbrev pub Bytes : ℕ → Option Request → Option Reply → (ℕ → ℕ) → (ℕ → ℕ) → Type 0
 Bytes size None None m n = n ≡ m
-Bytes size None (Some r) m n = ⊥
-Bytes size (Some q) None m n = ⊥
 Bytes size (Some (Read a)) (Some (Ok (Word w))) m n = (within size a ≡ true) × (w ≡ word m a) × (n ≡ m)
-Bytes size (Some (Read a)) (Some (Ok Done)) m n = ⊥
-Bytes size (Some (Read a)) (Some (Err Wait)) m n = n ≡ m
-Bytes size (Some (Read a)) (Some (Err Outside)) m n = (within size a ≡ false) × (n ≡ m)
-Bytes size (Some (Write a v l)) (Some (Ok (Word w))) m n = ⊥
 Bytes size (Some (Write a v l)) (Some (Ok Done)) m n = (within size a ≡ true) × (n ≡ put m a v l)
-Bytes size (Some (Write a v l)) (Some (Err Wait)) m n = n ≡ m
-Bytes size (Some (Write a v l)) (Some (Err Outside)) m n = (within size a ≡ false) × (n ≡ m)
+Bytes size (Some q) (Some (Err Wait)) m n = n ≡ m
+Bytes size (Some q) (Some (Err Outside)) m n = (within size (place q) ≡ false) × (n ≡ m)
+Bytes size q r m n = ⊥

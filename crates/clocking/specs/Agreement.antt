@@ -12,7 +12,7 @@ use Rattle.clocking.specs.declared.state.Core.{Core}
 use Rattle.clocking.specs.declared.state.Event.{Event}
 use Rattle.clocking.specs.declared.latch.Completed.{Completed}
 use Rattle.clocking.specs.declared.latch.Latch.{Latch}
-use Rattle.clocking.specs.declared.latch.Latch.TheVariants.{Empty, Faulting, Full}
+use Rattle.clocking.specs.declared.latch.Latch.TheVariants.{Full}
 
 -- ---- what a history says: the clocks made, in order
 
@@ -63,9 +63,8 @@ StopsSo world s (Some stop) = (stop.address ≡ s.address) × (step world s ≡ 
 
 -- the data bytes are those of s, once an instruction that waits in W without a cause has been done too
 abbrev pub BytesSo : World → State → Latch Completed → (ℕ → ℕ) → Type 0
-BytesSo world s Empty bytes = bytes ≡ s.bytes
-BytesSo world s (Faulting stop) bytes = bytes ≡ s.bytes
 BytesSo world s (Full c) bytes = (p : Step) × (step world s ≡ Ok p) × (bytes ≡ p.after.bytes)
+BytesSo world s w bytes = bytes ≡ s.bytes
 
 abbrev pub stopped_count : Option Stop → ℕ
 stopped_count None = 0

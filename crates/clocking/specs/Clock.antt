@@ -32,24 +32,21 @@ use Rattle.clocking.specs.declared.stage.FetchOut.{FetchOut}
 
 -- W stops the machine where it is faulting
 abbrev pub stop_of : Latch Completed → Option Stop
-stop_of Empty = None
 stop_of (Faulting stop) = Some stop
-stop_of (Full c) = None
+stop_of w = None
 
 -- W retires where it is full and not faulting
 abbrev pub retirement_of : Latch Completed → Option Retirement
-retirement_of Empty = None
-retirement_of (Faulting stop) = None
 retirement_of (Full c) = Some (record { retired = retired c.address c.word c.rd c.value; outcome = c.outcome })
+retirement_of w = None
 
 abbrev pub outcome_of : Option Retirement → Option Outcome
 outcome_of None = None
 outcome_of (Some r) = r.outcome
 
 abbrev pub written_back : Registers → Latch Completed → Registers
-written_back g Empty = g
-written_back g (Faulting stop) = g
 written_back g (Full c) = written g c.rd c.value
+written_back g w = g
 
 -- ---- the stages, one after another; g is the register file once W is written back
 

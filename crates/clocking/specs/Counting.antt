@@ -2,12 +2,12 @@
 use Rattle.std.specs.Prelude.{◌≡◌, ℕ, ◌+◌, ◌%◌, ◌^◌, Bool, true, false, is_some, Some, None, Ok, Err, Option, Result}
 use Rattle.base.specs.declared.bus.Request.{Request}
 use Rattle.memory.specs.Meaning.{Reply}
-use Rattle.memory.specs.declared.Unserved.TheVariants.{Wait, Outside}
+use Rattle.memory.specs.declared.Unserved.TheVariants.{Wait}
 use Rattle.rv32i.specs.declared.cause.Cause.{Cause}
 use Rattle.clocking.specs.declared.counts.Counts.{Counts}
 use Rattle.clocking.specs.declared.latch.Fetched.{Fetched}
 use Rattle.clocking.specs.declared.latch.Latch.{Latch}
-use Rattle.clocking.specs.declared.latch.Latch.TheVariants.{Empty, Faulting, Full}
+use Rattle.clocking.specs.declared.latch.Latch.TheVariants.{Empty}
 use Rattle.clocking.specs.declared.latch.Latches.{Latches}
 use Rattle.clocking.specs.declared.stage.Flow.{Flow}
 use Rattle.clocking.specs.declared.stage.Flow.TheVariants.{Moves, Stays, RollsBack}
@@ -15,8 +15,7 @@ use Rattle.clocking.specs.declared.stage.Flow.TheVariants.{Moves, Stays, RollsBa
 -- how many instructions a latch holds
 abbrev pub occupied : {T : Type 0} → Latch T → ℕ
 occupied Empty = 0
-occupied (Faulting stop) = 1
-occupied (Full x) = 1
+occupied l = 1
 
 -- how many stand in latches
 abbrev pub in_flight_count : Latches → ℕ
@@ -29,9 +28,8 @@ has_fetched (Ok None) x = false
 has_fetched (Ok (Some q)) x = is_some x
 
 abbrev pub if_rolled : Flow → ℕ → ℕ
-if_rolled Moves n = 0
-if_rolled Stays n = 0
 if_rolled RollsBack n = n
+if_rolled flow n = 0
 
 -- how many are removed: a rollback from data removes X, and any rollback D
 abbrev pub dropped : Latches → Flow → Flow → ℕ
@@ -49,22 +47,17 @@ pub record Counted (c : Counts) (fetched retired : Bool) (gone : ℕ) (d : Count
   pub dropped_so : d.dropped ≡ (c.dropped + gone) % 2 ^ 32
 
 abbrev pub stays : Flow → Bool
-stays Moves = false
 stays Stays = true
-stays RollsBack = false
+stays flow = false
 
 abbrev pub moves : Flow → Bool
 moves Moves = true
-moves Stays = false
-moves RollsBack = false
+moves flow = false
 
 abbrev pub rolls_back : Flow → Bool
-rolls_back Moves = false
-rolls_back Stays = false
 rolls_back RollsBack = true
+rolls_back flow = false
 
 abbrev pub is_wait : Option Reply → Bool
-is_wait None = false
-is_wait (Some (Ok a)) = false
 is_wait (Some (Err Wait)) = true
-is_wait (Some (Err Outside)) = false
+is_wait r = false

@@ -4,7 +4,7 @@ use Rattle.base.specs.declared.branch.Outcome.{Outcome}
 use Rattle.base.specs.declared.bus.Request.{Request}
 use Rattle.memory.specs.Meaning.{Meaning}
 use Rattle.memory.specs.Meaning.{Reply}
-use Rattle.memory.specs.declared.Answer.TheVariants.{Word, Done}
+use Rattle.memory.specs.declared.Answer.TheVariants.{Word}
 use Rattle.rv32i.specs.Effects.{following}
 use Rattle.words.specs.Issues.{issued}
 use Rattle.rv32i.specs.Targets.{target_of}
@@ -21,9 +21,8 @@ Table P = P → List Outcome → ℕ → ℕ → Bool
 -- one call a clock: a request and its reply, or idle
 abbrev pub Asked : {M : Type 0} → Meaning M → M → Option Request → Option Reply → M → Type 0
 Asked means m None None n = means.idles m n
-Asked means m None (Some r) n = ⊥
-Asked means m (Some q) None n = ⊥
 Asked means m (Some q) (Some r) n = means.serves m q r n
+Asked means m q r n = ⊥
 
 -- a branch that retires teaches the predictor its outcome
 abbrev pub Taught : {P : Type 0} → Table P → P → Option Outcome → P → Type 0
@@ -43,7 +42,5 @@ guess_after table p f (Ok i) = guess_by table p f (target_of i f)
 
 -- what arrived from the instruction memory
 abbrev pub arrival : {P : Type 0} → Table P → P → ℕ → Option Reply → Option Fetched
-arrival table p f None = None
 arrival table p f (Some (Ok (Word w))) = Some (record { address = f; word = w; issued = issued w; guess = guess_after table p f (issued w) })
-arrival table p f (Some (Ok Done)) = None
-arrival table p f (Some (Err u)) = None
+arrival table p f r = None

@@ -3,13 +3,13 @@ use Rattle.std.specs.Prelude.{ℕ, ◌%◌, Bool, true, false, cond, Some, None,
 use Rattle.base.specs.declared.bus.Request.{Request}
 use Rattle.base.specs.declared.bus.Request.TheVariants.{Read}
 use Rattle.memory.specs.Meaning.{Reply}
-use Rattle.memory.specs.declared.Answer.TheVariants.{Word, Done}
-use Rattle.memory.specs.declared.Unserved.TheVariants.{Wait, Outside}
+use Rattle.memory.specs.declared.Answer.TheVariants.{Word}
+use Rattle.memory.specs.declared.Unserved.TheVariants.{Wait}
 use Rattle.rv32i.specs.Effects.{following, first_source, second_source, destination, executed, access, request, loaded}
 use Rattle.rv32i.specs.declared.cause.Cause.{Cause}
 use Rattle.rv32i.specs.declared.cause.Cause.TheVariants.{JumpMisaligned, FetchOutside}
 use Rattle.rv32i.specs.declared.effect.Access.{Access}
-use Rattle.rv32i.specs.declared.effect.Access.TheVariants.{Load, Store}
+use Rattle.rv32i.specs.declared.effect.Access.TheVariants.{Load}
 use Rattle.rv32i.specs.declared.effect.Effect.{Effect}
 use Rattle.rv32i.specs.declared.instruction.Instruction.{Instruction}
 use Rattle.rv32i.specs.declared.register.Register.{Register}
@@ -39,9 +39,8 @@ sent (Ok q) = q
 
 -- what M asks of a data memory of that size, or the cause that its address has
 abbrev pub data_request : ℕ → Latch Executed → Result (Option Request) Cause
-data_request size Empty = Ok None
-data_request size (Faulting stop) = Ok None
 data_request size (Full e) = request size e.access e.result e.b
+data_request size m = Ok None
 
 abbrev pub complete : Executed → ℕ → Completed
 complete e v = record { address = e.address; word = e.word; rd = e.rd; value = v; outcome = e.outcome }
@@ -51,11 +50,9 @@ completes_with e v = record { w = Full (complete e v); flow = Moves }
 
 -- by the memory's reply, none where nothing was asked; a request that is within is never told Outside
 abbrev pub answered : Executed → Option Reply → DataOut
-answered e None = completes_with e e.result
 answered e (Some (Ok (Word w))) = completes_with e (loaded e.access e.result w)
-answered e (Some (Ok Done)) = completes_with e e.result
 answered e (Some (Err Wait)) = record { w = Empty; flow = Stays }
-answered e (Some (Err Outside)) = completes_with e e.result
+answered e r = completes_with e e.result
 
 abbrev pub told : Executed → Result (Option Request) Cause → Option Reply → DataOut
 told e (Err c) r = record { w = Faulting (record { address = e.address; cause = c }); flow = RollsBack }
@@ -96,8 +93,7 @@ checked a guess (Ok e) = turned e (e.next == guess)
 abbrev pub execute_stage : Latch Executed → Latch Decoded → Flow → ExecuteOut
 execute_stage m x RollsBack = record { m = Empty; flow = RollsBack; redirect = None }
 execute_stage m Empty Stays = record { m = m; flow = Moves; redirect = None }
-execute_stage m (Faulting stop) Stays = record { m = m; flow = Stays; redirect = None }
-execute_stage m (Full d) Stays = record { m = m; flow = Stays; redirect = None }
+execute_stage m x Stays = record { m = m; flow = Stays; redirect = None }
 execute_stage m Empty Moves = record { m = Empty; flow = Moves; redirect = None }
 execute_stage m (Faulting stop) Moves = record { m = Faulting stop; flow = Moves; redirect = None }
 execute_stage m (Full d) Moves = checked d.address d.guess (execute d)
@@ -105,8 +101,7 @@ execute_stage m (Full d) Moves = checked d.address d.guess (execute d)
 -- X with this clock's result: what it put into M, if M moved
 abbrev pub x_result : Flow → Latch Executed → Latch Executed
 x_result Moves m = m
-x_result Stays m = Empty
-x_result RollsBack m = Empty
+x_result flow m = Empty
 
 -- ---- decode
 
@@ -117,30 +112,25 @@ gives (Some rd) r = rd.number == r.number
 
 -- a load in X has no value yet
 abbrev pub early : Option Access → ℕ → Option ℕ
-early None v = Some v
 early (Some (Load k)) v = None
-early (Some (Store k)) v = Some v
+early how v = Some v
 
 abbrev pub from_x : Latch Executed → Register → Option (Option ℕ)
-from_x Empty r = None
-from_x (Faulting stop) r = None
 from_x (Full e) r = cond (gives e.rd r) (Some (early e.access e.result)) None
+from_x x r = None
 
 -- M with this clock's answer: its value, if it went to W
 abbrev pub arrived : Latch Completed → Option ℕ
-arrived Empty = None
-arrived (Faulting stop) = None
 arrived (Full c) = Some c.value
+arrived answer = None
 
 abbrev pub from_m : Latch Executed → Latch Completed → Register → Option (Option ℕ)
-from_m Empty answer r = None
-from_m (Faulting stop) answer r = None
 from_m (Full e) answer r = cond (gives e.rd r) (Some (arrived answer)) None
+from_m m answer r = None
 
 abbrev pub from_w : Latch Completed → Register → Option (Option ℕ)
-from_w Empty r = None
-from_w (Faulting stop) r = None
 from_w (Full c) r = cond (gives c.rd r) (Some (Some c.value)) None
+from_w w r = None
 
 abbrev pub or_else : Option (Option ℕ) → Option ℕ → Option ℕ
 or_else None y = y
@@ -163,8 +153,7 @@ with_operands f i (Some a) (Some b) = record {
   x = Full (record { address = f.address; word = f.word; instruction = i; rd = destination i; a = a; b = b; guess = f.guess });
   flow = Moves;
 }
-with_operands f i (Some a) None = record { x = Empty; flow = Stays }
-with_operands f i None b = record { x = Empty; flow = Stays }
+with_operands f i a b = record { x = Empty; flow = Stays }
 
 abbrev pub decode_word : (Register → Option ℕ) → Fetched → Result Instruction Cause → DecodeOut
 decode_word reads f (Err c) = record { x = Faulting (record { address = f.address; cause = c }); flow = Moves }
@@ -177,8 +166,7 @@ decode_moves reads (Full f) = decode_word reads f f.issued
 
 abbrev pub decode_stays : Latch Decoded → Latch Fetched → DecodeOut
 decode_stays x Empty = record { x = x; flow = Moves }
-decode_stays x (Faulting stop) = record { x = x; flow = Stays }
-decode_stays x (Full f) = record { x = x; flow = Stays }
+decode_stays x d = record { x = x; flow = Stays }
 
 -- by what the execute stage did with X
 abbrev pub decode_stage : (Register → Option ℕ) → Latch Decoded → Latch Fetched → Flow → DecodeOut
@@ -190,9 +178,8 @@ decode_stage reads x d Moves = decode_moves reads d
 
 -- what is asked of an instruction memory of that size for f, or the cause that f has, by what the decode stage did with D
 abbrev pub fetching : ℕ → ℕ → Flow → Result (Option Request) Cause
-fetching size f RollsBack = Ok None
-fetching size f Stays = Ok None
 fetching size f Moves = cond (f % 4 == 0) (cond (nat_lt f size) (Ok (Some (Read f))) (Err FetchOutside)) (Err JumpMisaligned)
+fetching size f flow = Ok None
 
 abbrev pub redirected : ℕ → Option ℕ → ℕ
 redirected f None = f

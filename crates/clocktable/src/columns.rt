@@ -1,30 +1,14 @@
 //! A clock as text.
 ghost use Rattle.std.specs.Prelude.{◌≡◌, Some};
-ghost use Rattle.std.specs.Fmt.{WritesOnOk};
+ghost use Rattle.listing.specs.Hex.{hex, places};
+ghost use Rattle.listing.specs.Texts.{or_dash};
 ghost use Rattle.clocktable.specs.Tables.{address_text, letter_text, letters, noted, notes_text, stages_text, clock_text, counts_text};
 
 use clocking::state::{ClockRecord, Notes};
 use listing::hex::Hex;
+use listing::or_dash::OrDash;
 use pipeline::machine::Totals;
 use std::fmt;
-
-/// The address of what a latch holds, or `-` for nothing.
-#[derive(Clone, Copy)]
-pub struct AddressText(pub Option<u32>);
-
-impl fmt::Display for AddressText {
-    ghost output = { λ x. Some (address_text x.0) };
-
-    fn fmt<W: fmt::Write>(&self, f: &mut fmt::Formatter<W>) -> fmt::Result {
-        match self.0 {
-            Some(address) => {
-                let address = Hex(address);
-                write!(f, "{address}")
-            }
-            None => f.write_str("-"),
-        }
-    }
-}
 
 /// A letter, or nothing.
 #[derive(Clone, Copy)]
@@ -36,7 +20,7 @@ impl fmt::Display for Letter {
     fn fmt<W: fmt::Write>(&self, f: &mut fmt::Formatter<W>) -> fmt::Result {
         match self.0 {
             Some(letter) => f.write_char(letter),
-            None => f.write_str(""),
+            None => Ok(()),
         }
     }
 }
@@ -49,12 +33,16 @@ impl fmt::Display for Letters {
     ghost output = { λ x. Some (letters x.0) };
 
     fn fmt<W: fmt::Write>(&self, f: &mut fmt::Formatter<W>) -> fmt::Result {
-        let fetch_wait = Letter(self.0.fetch_wait.then_some('f'));
-        let hazard = Letter(self.0.hazard.then_some('h'));
-        let data_wait = Letter(self.0.data_wait.then_some('d'));
-        let rollback = Letter(self.0.rollback.then_some('r'));
-        let stop = Letter(self.0.stop.then_some('s'));
-        write!(f, "{fetch_wait}{hazard}{data_wait}{rollback}{stop}")
+        let notes = self.0;
+        write!(
+            f,
+            "{}{}{}{}{}",
+            Letter(notes.fetch_wait.then_some('f')),
+            Letter(notes.hazard.then_some('h')),
+            Letter(notes.data_wait.then_some('d')),
+            Letter(notes.rollback.then_some('r')),
+            Letter(notes.stop.then_some('s'))
+        )
     }
 }
 
@@ -74,12 +62,18 @@ impl fmt::Display for NotesText {
 
     fn fmt<W: fmt::Write>(&self, f: &mut fmt::Formatter<W>) -> fmt::Result {
         if noted(self.0) {
-            let letters = Letters(self.0);
-            write!(f, "{letters}")
+            write!(f, "{}", Letters(self.0))
         } else {
             f.write_str("-")
         }
     }
+}
+
+/// The address of what a latch holds, or `-` for nothing.
+fn held(address: Option<u32>) -> OrDash<Hex>
+    ensures { or_dash (λ x. Some (hex places x.0)) result.0 ≡ Some (address_text address) }
+{
+    OrDash(address.map(Hex))
 }
 
 /// The addresses in the four latches.
@@ -90,11 +84,8 @@ impl fmt::Display for StagesText {
     ghost output = { λ x. Some (stages_text x.0) };
 
     fn fmt<W: fmt::Write>(&self, f: &mut fmt::Formatter<W>) -> fmt::Result {
-        let d = AddressText(self.0.d);
-        let x = AddressText(self.0.x);
-        let m = AddressText(self.0.m);
-        let w = AddressText(self.0.w);
-        write!(f, "{d} {x} {m} {w}")
+        let ClockRecord { d, x, m, w, .. } = self.0;
+        write!(f, "{} {} {} {}", held(d), held(x), held(m), held(w))
     }
 }
 
@@ -106,11 +97,19 @@ impl fmt::Display for ClockText {
     ghost output = { λ x. Some (clock_text x.0) };
 
     fn fmt<W: fmt::Write>(&self, f: &mut fmt::Formatter<W>) -> fmt::Result {
-        let clock = self.0.clock;
-        let fetch = Hex(self.0.f);
-        let stages = StagesText(self.0);
-        let notes = NotesText(self.0.notes);
-        write!(f, "{clock} {fetch} {stages} {notes}")
+        let ClockRecord {
+            clock,
+            f: fetch,
+            notes,
+            ..
+        } = self.0;
+        write!(
+            f,
+            "{clock} {} {} {}",
+            Hex(fetch),
+            StagesText(self.0),
+            NotesText(notes)
+        )
     }
 }
 
@@ -122,9 +121,12 @@ impl fmt::Display for CountsText {
     ghost output = { λ x. Some (counts_text x.0) };
 
     fn fmt<W: fmt::Write>(&self, f: &mut fmt::Formatter<W>) -> fmt::Result {
-        let fetched = self.0.fetched;
-        let retired = self.0.retired;
-        let dropped = self.0.dropped;
+        let Totals {
+            fetched,
+            retired,
+            dropped,
+            ..
+        } = self.0;
         write!(f, "fetched {fetched} retired {retired} dropped {dropped}")
     }
 }

@@ -1,11 +1,12 @@
 //! Images as the programs take them.
-ghost use Rattle.std.specs.Prelude.{◌≡◌, true, vec_len};
+ghost use Rattle.std.specs.Prelude.{◌≡◌, true, length, vec_len};
 ghost use Rattle.memory.specs.Flat.{flat_fits};
 
 mod from_words;
 mod padding;
 
 pub use from_words::bytes_of;
+use memory::Flat;
 pub use padding::padded;
 
 /// An image of as many bytes as a flat memory can have.
@@ -21,6 +22,14 @@ impl PaddedImage {
         ensures { result.now ≡ self.now.bytes.items }
     {
         &self.bytes
+    }
+
+    /// The flat memory of the bytes.
+    pub fn into_memory(self) -> Flat
+        ensures bytes { result.bytes ≡ self.bytes }
+        ensures size { result.size ≡ length self.bytes.items }
+    {
+        Flat::new(self.into_bytes())
     }
 
     /// The bytes, as what a flat memory is made of.

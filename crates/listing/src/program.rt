@@ -1,5 +1,5 @@
 //! A program from its input to its print.
-ghost use Rattle.std.specs.Prelude.{IfOk, string_bytes};
+ghost use Rattle.std.specs.Prelude.{◌≡◌, replicate, IfOk, vec_items, string_bytes};
 ghost use Rattle.listing.specs.Programs.{Printed, Answered};
 
 use crate::image::{PaddedImage, padded};
@@ -17,12 +17,18 @@ const LIMIT: usize = 1000;
 /// How many zero bytes of data a program has.
 const DATA: usize = 4096;
 
+/// A program's data memory, all zeros.
+pub fn data_memory(heap: Global) -> Result<Flat, AllocError>
+    ensures { IfOk result (λ m. (vec_items m.bytes ≡ replicate 4096 0) × (m.size ≡ 4096)) }
+{
+    Ok(Flat::new(vec![in heap; 0u8; DATA]?))
+}
+
 /// Runs an image on the sequential machine, from address 0, and prints what retired.
 fn print_of(heap: Global, image: PaddedImage) -> Result<String, AllocError>
     ensures { IfOk result (λ t. Printed image.bytes.items (string_bytes t)) }
 {
-    let data = vec![in heap; 0u8; DATA]?;
-    let mut machine = Machine::new(0, Flat::new(image.into_bytes()), Flat::new(data));
+    let mut machine = Machine::new(0, image.into_memory(), data_memory(heap)?);
     let mut slots = [Retired::EMPTY; LIMIT];
     let mut log = Log::new(&mut slots);
     let stop = machine.run(&mut log);

@@ -1,7 +1,9 @@
 //! Answers that are printed, and images that are given by their words.
 use crate::answer::printed;
 use crate::image::{bytes_of, padded};
+use crate::program::data_memory;
 use base::refusal::Refusal;
+use memory::Memory;
 use std::test::Fail;
 
 #[test]
@@ -23,5 +25,14 @@ fn words_lie_lowest_byte_first(rt: HostRuntime) -> Result<(), Fail> {
     assert_eq!(rt; image.bytes().get(7), Some(&0xff));
     assert_eq!(rt; image.bytes().get(8), Some(&0));
     assert_eq!(rt; image.into_bytes().len(), 16);
+    Ok(())
+}
+
+#[test]
+fn data_is_4096_zeros(rt: HostRuntime) -> Result<(), Fail> {
+    let data = data_memory(rt.alloc())?;
+    assert_eq!(rt; data.size(), 4096);
+    assert_eq!(rt; data.peek(0), Some(0));
+    assert_eq!(rt; data.peek(4095), Some(0));
     Ok(())
 }

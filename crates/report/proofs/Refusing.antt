@@ -3,25 +3,25 @@ use Rattle.std.proofs.Common.{◌≡◌, ℕ, Bool, true, false, cond, ◌&&◌,
 use Rattle.std.proofs.lemmas.Bool.{and_parts}
 use Rattle.std.specs.declared.alloc.Global.{Global}
 use Rattle.base.specs.Refusals.{number}
+use Rattle.base.specs.declared.failure.Failure.{Failure}
+use Rattle.base.specs.declared.failure.Failure.TheVariants.{Refused, OutOfMemory}
 use Rattle.memory.specs.Flat.{flat_fits}
 use Rattle.pipeline.specs.Calls.{load_fits}
 use Rattle.choice.specs.Predictors.{chosen_table}
 use Rattle.choice.specs.Stacks.{layers_fit}
 use Rattle.setup.specs.declared.choice.Setup.{Setup}
-use Rattle.report.specs.Timings.{Stack, means, Shown, Assembled, Timed, StackAnswer, DataAnswer, AssemblyAnswer, refusal_of}
+use Rattle.report.specs.Timings.{Stack, Guesser, means, Shown, Assembled, Timed, StackAnswer, DataAnswer, AssemblyAnswer, refusal_of}
 use Rattle.report.specs.declared.lines.Longest.{Longest}
 use Rattle.report.specs.declared.timing.assembly.Assembly.{Assembly}
-use Rattle.report.specs.declared.timing.TimingError.{TimingError}
-use Rattle.report.specs.declared.timing.TimingError.TheVariants.{Refused, NoMemory}
 
 -- the data memory, from what is said of its stack over zero bytes
-pub data_answer : (s : Setup) (v : Vec ℕ Global) (r : Result Stack TimingError) → flat_fits s.data_size ≡ true → vec_len v ≡ s.data_size → vec_items v ≡ replicate s.data_size 0
+pub data_answer : (s : Setup) (v : Vec ℕ Global) (r : Result Stack Failure) → flat_fits s.data_size ≡ true → vec_len v ≡ s.data_size → vec_items v ≡ replicate s.data_size 0
     → StackAnswer v s.«data» r → DataAnswer s r
 data_answer s v (Ok m) f n z b =
     (f, (and_parts (flat_fits (vec_len v)) (layers_fit s.«data») b.fits).1, record { vector = v; holds = z; built = b })
 data_answer s v (Err (Refused why)) f n z h =
     (h.0 ∙ ap (λ (k : ℕ). cond (flat_fits k) 2 1) n, sym (ap (λ (k : ℕ). flat_fits k && layers_fit s.«data») n) ∙ h.1)
-data_answer s v (Err NoMemory) f n z h = tt
+data_answer s v (Err OutOfMemory) f n z h = tt
 
 -- the first of two tests that fails
 first_failing : (f l : Bool) (x : Option ℕ) (n : ℕ) → n ≡ cond f 2 1 → (f && l) ≡ false → cond f (cond l x (Some 2)) (Some 1) ≡ Some n
@@ -30,24 +30,24 @@ first_failing true false x n e z = ap Some (sym e)
 first_failing false l x n e z = ap Some (sym e)
 
 -- a refusal of the data memory is one of the set-up, where the instruction memory is sound
-pub data_refused : (s : Setup) (image : List ℕ) (e : TimingError) → layers_fit s.instructions ≡ true → DataAnswer s (Err e) → AssemblyAnswer s image (Err e)
+pub data_refused : (s : Setup) (image : List ℕ) (e : Failure) → layers_fit s.instructions ≡ true → DataAnswer s (Err e) → AssemblyAnswer s image (Err e)
 data_refused s image (Refused why) i h =
     ap (λ (b : Bool). cond b (cond (flat_fits s.data_size) (cond (layers_fit s.«data») (cond (load_fits 0 (length image) s.start) None (Some 3)) (Some 2)) (Some 1)) (Some 2)) i
     ∙ first_failing (flat_fits s.data_size) (layers_fit s.«data») (cond (load_fits 0 (length image) s.start) None (Some 3)) (number why) h.0 h.1
-data_refused s image NoMemory i h = tt
+data_refused s image OutOfMemory i h = tt
 
 -- the same of what it is converted to
-pub data_refused_by : (s : Setup) (image : List ℕ) (e : TimingError) (r : Result Assembly TimingError) → is_err r ≡ true → IsErrAnd r (λ x. x ≡ e) → layers_fit s.instructions ≡ true → DataAnswer s (Err e)
+pub data_refused_by : (s : Setup) (image : List ℕ) (e : Failure) (r : Result (Assembly Guesser Stack Stack) Failure) → is_err r ≡ true → IsErrAnd r (λ x. x ≡ e) → layers_fit s.instructions ≡ true → DataAnswer s (Err e)
     → AssemblyAnswer s image r
 data_refused_by s image e (Ok a) z by i h = absurd (true≢false (sym z))
-data_refused_by s image e (Err x) z by i h = let P : TimingError → Type 0 = λ y. DataAnswer s (Err y) in data_refused s image x i (subst P (sym by) h)
+data_refused_by s image e (Err x) z by i h = let P : Failure → Type 0 = λ y. DataAnswer s (Err y) in data_refused s image x i (subst P (sym by) h)
 
 -- nothing is refused where all tests pass
 pub sound_setup : (s : Setup) (size : ℕ) → layers_fit s.instructions ≡ true → flat_fits s.data_size ≡ true → layers_fit s.«data» ≡ true → load_fits 0 size s.start ≡ true → refusal_of s size ≡ None
 sound_setup s size e f g h = rw (e, f, g, h)
 
 -- the whole answer, from its parts
-pub timed : (s : Setup) (image whole : List ℕ) (a : Assembly) (text : List ℕ) → image ≡ whole → AssemblyAnswer s image (Ok a) → Shown chosen_table means means s a.longest a.machine text → Timed s whole text
+pub timed : (s : Setup) (image whole : List ℕ) (a : Assembly Guesser Stack Stack) (text : List ℕ) → image ≡ whole → AssemblyAnswer s image (Ok a) → Shown chosen_table means means s a.longest a.machine text → Timed s whole text
 timed s image whole a text e h run =
     let P : List ℕ → Type 0 = λ x. Assembled s x a.machine in
     let Q : Longest → Type 0 = λ w. Shown chosen_table means means s w a.machine text in

@@ -1,5 +1,6 @@
 -- A run and the text of it. Assumes nothing.
-use Rattle.std.proofs.Common.{◌≡◌, ℕ, ◌≤◌, Bool, true, false, ◌⊎◌, List, [], ◌∷◌, ◌++◌, length, Some, None, Option, sym, refl, ap, ◌∙◌, inl, inr, ⊎_elim, true≢false, arith, length-append}
+use Rattle.std.proofs.Common.{◌≡◌, ℕ, ◌≤◌, Bool, true, false, ◌⊎◌, List, [], ◌∷◌, ◌++◌, length, Some, None, Option, sym, refl, ap, ◌∙◌, subst, inl, inr, ⊎_elim, true≢false, arith, length-append}
+use Rattle.base.specs.Logs.{records, room}
 use Rattle.base.specs.declared.refusal.Refusal.{Refusal}
 use Rattle.base.specs.declared.refusal.Refusal.TheVariants.{FlatSize, LongWait, BadStart, Held, Stopped, LogFull, ClocksSpent, WrongToken, NotThere, NoWord}
 use Rattle.memory.specs.Meaning.{Meaning}
@@ -8,7 +9,9 @@ use Rattle.clocking.specs.Ports.{Table}
 use Rattle.clocking.specs.declared.state.ClockRecord.{ClockRecord}
 use Rattle.clocking.specs.declared.state.Event.{Event}
 use Rattle.pipeline.specs.Calls.{Logs, logged, retired_at, retired_entries, clock_entries, is_stopped, Clocks, start, next, Ended, Ran, RanInto}
+use Rattle.pipeline.specs.Logged.{logs}
 use Rattle.pipeline.specs.Theorem.{Calls, none, run}
+use Rattle.pipeline.specs.declared.journal.Journal.{Journal}
 use Rattle.pipeline.specs.declared.machine.Machine.{Machine}
 use Rattle.pipeline.specs.declared.machine.RetiredAt.{RetiredAt}
 use Rattle.pipeline.specs.declared.machine.Run.{Run}
@@ -85,18 +88,22 @@ module _ {P I D : Type 0} (table : Table P) (instructions : Meaning I) (words : 
     pub retired_so : rs ≡ retired_entries history
     pub clocks_so : cs ≡ clock_entries history
 
-  pub whole_run : (n : ℕ) (l j : Logs) (first last : Machine P I D) (r : Run) (rs : List RetiredAt) (cs : List ClockRecord) → n ≤ 4294967295 → l ≡ empty_logs n n
-      → RanInto table instructions words l first n r j last → rs ≡ j.retired → cs ≡ j.clocks → Whole n first last rs cs
-  whole_run n l j first last r rs cs bound le ran re ce =
+  pub whole_run : (n : ℕ) (before after : Journal) (first last : Machine P I D) (r : Run) → n ≤ 4294967295 → (records before.retirements ≡ []) × (records before.clocks ≡ [])
+      → (room before.retirements ≡ n) × (room before.clocks ≡ n) → RanInto table instructions words (logs before) first n r (logs after) last
+      → Whole n first last (records after.retirements) (records after.clocks)
+  whole_run n before after first last r bound empty rooms ran =
+      let fresh : logs before ≡ empty_logs n n = λ k. record { retired_room = rooms.0 k; retired = empty.0 k; clock_room = rooms.1 k; clocks = empty.1 k } in
       let es = ran.0 in
-      let made : Ran table instructions words (empty_logs n n) first n r es last = rw le at ran.1 in
-      let logs : j ≡ logged (empty_logs n n) es = ran.2 ∙ ap (λ (x : Logs). logged x es) le in
+      let made : Ran table instructions words (empty_logs n n) first n r es last =
+      let P : Logs → Type 0 = λ l. Ran table instructions words l first n r es last in
+      subst P fresh ran.1 in
+      let filled : logs after ≡ logged (empty_logs n n) es = ran.2 ∙ ap (λ (x : Logs). logged x es) fresh in
       record {
         history = es;
         calls = run (empty_logs n n) n r es last none made;
         finished = run_finished n first r es last made bound;
-        retired_so = re ∙ ap (λ (x : Logs). x.retired) logs;
-        clocks_so = ce ∙ ap (λ (x : Logs). x.clocks) logs;
+        retired_so = ap (λ (x : Logs). x.retired) filled;
+        clocks_so = ap (λ (x : Logs). x.clocks) filled;
       }
 
   module _ (s : Setup) (w : Longest) (first last : Machine P I D) where

@@ -2,6 +2,8 @@
 use Rattle.std.specs.Prelude.{◌≡◌, ℕ, ◌-◌, ◌<◌, ◌≤◌, List, ◌++◌, length, replicate, Ok, Err, vec_items, string_bytes, Result, String}
 use Rattle.std.specs.declared.alloc.Global.{Global}
 use Rattle.base.specs.Refusals.{number}
+use Rattle.base.specs.declared.failure.Failure.{Failure}
+use Rattle.base.specs.declared.failure.Failure.TheVariants.{Refused, OutOfMemory}
 use Rattle.memory.specs.Flat.{flat_means}
 use Rattle.memory.specs.declared.flat.Flat.{Flat}
 use Rattle.predictor.specs.Tables.{never}
@@ -12,8 +14,6 @@ use Rattle.pipeline.specs.Readings.{totals}
 use Rattle.pipeline.specs.Theorem.{Agrees, Calls}
 use Rattle.pipeline.specs.declared.machine.Machine.{Machine}
 use Rattle.listing.specs.Images.{padded_size}
-use Rattle.listing.specs.declared.image.ImageError.{ImageError}
-use Rattle.listing.specs.declared.image.ImageError.TheVariants.{Refused, NoMemory}
 use Rattle.clocktable.specs.Tables.{clock_table}
 use Rattle.report.specs.Finishing.{Finished}
 
@@ -36,7 +36,7 @@ pub record ClockPrinted (image text : List ℕ) : Type 0 where
   pub shown : text ≡ clock_table (retired_entries history) (clock_entries history) last.core.stopped (totals last)
 
 -- what is answered to an input, which is padded with zeros
-abbrev pub ClocklogAnswer : List ℕ → Result (String Global) ImageError → Type 0
+abbrev pub ClocklogAnswer : List ℕ → Result (String Global) Failure → Type 0
 ClocklogAnswer input (Ok text) = (length input ≤ 65536) × ClockPrinted (input ++ replicate (padded_size (length input) - length input) 0) (string_bytes text)
 ClocklogAnswer input (Err (Refused why)) = (number why ≡ 1) × (65536 < length input)
-ClocklogAnswer input (Err NoMemory) = Unit {0}
+ClocklogAnswer input (Err OutOfMemory) = Unit {0}

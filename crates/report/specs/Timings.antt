@@ -2,6 +2,8 @@
 use Rattle.std.specs.Prelude.{◌≡◌, ℕ, ◌-◌, ◌<◌, ◌≤◌, Bool, true, false, cond, ◌&&◌, ◌⊎◌, List, [], ◌++◌, length, replicate, Some, None, Ok, Err, vec_items, vec_len, string_bytes, Option, Result, Vec, String}
 use Rattle.std.specs.declared.alloc.Global.{Global}
 use Rattle.base.specs.Refusals.{number}
+use Rattle.base.specs.declared.failure.Failure.{Failure}
+use Rattle.base.specs.declared.failure.Failure.TheVariants.{Refused, OutOfMemory}
 use Rattle.memory.specs.Flat.{flat_fits}
 use Rattle.memory.specs.Meaning.{Meaning}
 use Rattle.memory.specs.declared.flat.Flat.{Flat}
@@ -33,9 +35,7 @@ use Rattle.report.specs.Finishing.{Finished}
 use Rattle.report.specs.Lines.{report_text}
 use Rattle.report.specs.declared.lines.Longest.{Longest}
 use Rattle.report.specs.declared.lines.Outcomes.{Outcomes}
-use Rattle.report.specs.declared.timing.TimingError.{TimingError}
 use Rattle.report.specs.declared.timing.assembly.Assembly.{Assembly}
-use Rattle.report.specs.declared.timing.TimingError.TheVariants.{Refused, NoMemory}
 
 -- ---- a machine that ran, whichever its parts are
 
@@ -101,21 +101,21 @@ refusal_of s size =
     (cond (flat_fits s.data_size) (cond (layers_fit s.«data») (cond (load_fits 0 size s.start) None (Some 3)) (Some 2)) (Some 1)) (Some 2)
 
 -- the chosen stack over these bytes, or its refusal
-abbrev pub StackAnswer : Vec ℕ Global → StackChoice → Result Stack TimingError → Type 0
+abbrev pub StackAnswer : Vec ℕ Global → StackChoice → Result Stack Failure → Type 0
 StackAnswer bytes choice (Ok s) = Built bytes choice (inside s)
 StackAnswer bytes choice (Err (Refused why)) = (number why ≡ cond (flat_fits (vec_len bytes)) 2 1) × (stack_fits bytes choice ≡ false)
-StackAnswer bytes choice (Err NoMemory) = Unit {0}
+StackAnswer bytes choice (Err OutOfMemory) = Unit {0}
 
 -- the data memory, or the first of its two refusals
-abbrev pub DataAnswer : Setup → Result Stack TimingError → Type 0
+abbrev pub DataAnswer : Setup → Result Stack Failure → Type 0
 DataAnswer s (Ok m) = (flat_fits s.data_size ≡ true) × (layers_fit s.«data» ≡ true) × Stacked s.«data» (replicate s.data_size 0) m
 DataAnswer s (Err (Refused why)) = (number why ≡ cond (flat_fits s.data_size) 2 1) × (flat_fits s.data_size && layers_fit s.«data» ≡ false)
-DataAnswer s (Err NoMemory) = Unit {0}
+DataAnswer s (Err OutOfMemory) = Unit {0}
 
-abbrev pub AssemblyAnswer : Setup → List ℕ → Result Assembly TimingError → Type 0
+abbrev pub AssemblyAnswer : Setup → List ℕ → Result (Assembly Guesser Stack Stack) Failure → Type 0
 AssemblyAnswer s image (Ok a) = (refusal_of s (length image) ≡ None) × Assembled s image a.machine × (a.longest ≡ longest_of s)
 AssemblyAnswer s image (Err (Refused why)) = refusal_of s (length image) ≡ Some (number why)
-AssemblyAnswer s image (Err NoMemory) = Unit {0}
+AssemblyAnswer s image (Err OutOfMemory) = Unit {0}
 
 -- ---- all of it
 
@@ -135,7 +135,7 @@ abbrev pub refused_by : Setup → List ℕ → ℕ → Type 0
 refused_by s input why = ((why ≡ 1) × (65536 < length input)) ⊎ ((length input ≤ 65536) × (refusal_of s (length (padded_image input)) ≡ Some why))
 
 -- what is answered to a set-up and an input
-abbrev pub TimingAnswer : Setup → List ℕ → Result (String Global) TimingError → Type 0
+abbrev pub TimingAnswer : Setup → List ℕ → Result (String Global) Failure → Type 0
 TimingAnswer s input (Ok text) = (length input ≤ 65536) × Timed s (padded_image input) (string_bytes text)
 TimingAnswer s input (Err (Refused why)) = refused_by s input (number why)
-TimingAnswer s input (Err NoMemory) = Unit {0}
+TimingAnswer s input (Err OutOfMemory) = Unit {0}

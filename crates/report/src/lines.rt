@@ -1,12 +1,13 @@
 //! The lines of a report.
-ghost use Rattle.std.specs.Prelude.{◌≡◌, ◌+◌, IfOk, string_bytes};
-ghost use Rattle.report.specs.Lines.{setup_lines, bounds_line, totals_line, gap_line, last_line, report_text};
+ghost use Rattle.std.specs.Prelude.{◌≡◌, ◌+◌, ◌++◌, OnOk, IfOk, string_bytes};
+ghost use Rattle.report.specs.Lines.{setup_lines, bounds_line, totals_line, gap_line, last_line, within, report_text};
 
 use listing::records::StopText;
 use pipeline::machine::Totals;
 use sequential::record::Stop;
 use setup::choice::Setup;
 use std::alloc::{AllocError, Global};
+use std::fmt::Write;
 
 /// The longest waits that the two memories state.
 #[derive(Clone, Copy)]
@@ -33,59 +34,72 @@ pub struct Outcomes {
     pub stop: Option<Stop>,
 }
 
-/// The predictor and the two memories, with the longest waits that they state.
-fn setup_lines(heap: Global, setup: &Setup, longest: Longest) -> Result<String, AllocError>
-    ensures { IfOk result (λ t. string_bytes t ≡ setup_lines setup.now longest) }
+/// Writes the predictor and the two memories, with the longest waits that they state.
+fn write_setup(text: &mut String, setup: &Setup, longest: Longest) -> Result<(), AllocError>
+    ensures { OnOk result (string_bytes text.new ≡ string_bytes text.old ++ setup_lines setup.now longest) }
 {
-    let predictor = setup.predictor;
-    let instructions = setup.instructions;
-    let data = setup.data;
-    let first = longest.instructions;
-    let second = longest.data;
-    format!(in heap;
-        "predictor {predictor}\ninstructions {instructions} longest {first}\ndata {data} longest {second}\n"
+    write!(
+        text,
+        "predictor {}\ninstructions {} longest {}\ndata {} longest {}\n",
+        setup.predictor, setup.instructions, longest.instructions, setup.data, longest.data
     )
 }
 
-/// How many clocks a retirement can be away, at first and after each.
-fn bounds_line(heap: Global, first: u64, next: u64) -> Result<String, AllocError>
-    ensures { IfOk result (λ t. string_bytes t ≡ bounds_line first next) }
+/// Writes how many clocks a retirement can be away, at first and after each.
+fn write_bounds(text: &mut String, longest: Longest) -> Result<(), AllocError>
+    ensures { OnOk result (string_bytes text.new ≡ string_bytes text.old ++ bounds_line (within longest 5) (within longest 3)) }
 {
-    format!(in heap; "first retirement within {first} clocks, each next within {next}\n")
-}
-
-/// How many clocks there were, and what became of the instructions.
-fn totals_line(heap: Global, counts: Totals) -> Result<String, AllocError>
-    ensures { IfOk result (λ t. string_bytes t ≡ totals_line counts) }
-{
-    let clocks = counts.clocks;
-    let fetched = counts.fetched;
-    let retired = counts.retired;
-    let dropped = counts.dropped;
-    let in_flight = counts.in_flight;
-    format!(in heap;
-        "clocks {clocks} fetched {fetched} retired {retired} dropped {dropped} in flight {in_flight}\n"
+    writeln!(
+        text,
+        "first retirement within {} clocks, each next within {}",
+        longest.within(5),
+        longest.within(3)
     )
 }
 
-/// The longest gap that there was.
-fn gap_line(heap: Global, gap: u32) -> Result<String, AllocError>
-    ensures { IfOk result (λ t. string_bytes t ≡ gap_line gap) }
+/// Writes how many clocks there were, and what became of the instructions.
+fn write_totals(text: &mut String, counts: Totals) -> Result<(), AllocError>
+    ensures { OnOk result (string_bytes text.new ≡ string_bytes text.old ++ totals_line counts) }
 {
-    format!(in heap; "longest gap {gap}\n")
+    writeln!(
+        text,
+        "clocks {} fetched {} retired {} dropped {} in flight {}",
+        counts.clocks, counts.fetched, counts.retired, counts.dropped, counts.in_flight
+    )
 }
 
-/// How the run ended.
-fn last_line(heap: Global, stop: Option<Stop>) -> Result<String, AllocError>
-    ensures { IfOk result (λ t. string_bytes t ≡ last_line stop) }
+/// Writes the longest gap that there was.
+fn write_gap(text: &mut String, gap: u32) -> Result<(), AllocError>
+    ensures { OnOk result (string_bytes text.new ≡ string_bytes text.old ++ gap_line gap) }
+{
+    writeln!(text, "longest gap {gap}")
+}
+
+/// Writes how the run ended.
+fn write_last(text: &mut String, stop: Option<Stop>) -> Result<(), AllocError>
+    ensures { OnOk result (string_bytes text.new ≡ string_bytes text.old ++ last_line stop) }
 {
     match stop {
-        Some(stop) => {
-            let stop = StopText(stop);
-            format!(in heap; "stop {stop}\n")
-        }
-        None => String::from_str(heap, "limit\n"),
+        Some(stop) => writeln!(text, "stop {}", StopText(stop)),
+        None => writeln!(text, "limit"),
     }
+}
+
+/// Writes the report of a run behind a text.
+#[tactic(auto, unfolding(crate::specs::Lines::report_text))]
+pub fn write_report(
+    text: &mut String,
+    setup: &Setup,
+    longest: Longest,
+    outcomes: Outcomes,
+) -> Result<(), AllocError>
+    ensures { OnOk result (string_bytes text.new ≡ string_bytes text.old ++ report_text setup.now longest outcomes) }
+{
+    write_setup(text, setup, longest)?;
+    write_bounds(text, longest)?;
+    write_totals(text, outcomes.counts)?;
+    write_gap(text, outcomes.gap)?;
+    write_last(text, outcomes.stop)
 }
 
 /// The report of a run.
@@ -97,14 +111,7 @@ pub fn report(
 ) -> Result<String, AllocError>
     ensures { IfOk result (λ t. string_bytes t ≡ report_text setup.now longest outcomes) }
 {
-    let mut text = setup_lines(heap, setup, longest)?;
-    let bounds = bounds_line(heap, longest.within(5), longest.within(3))?;
-    text.push_str(bounds.as_str())?;
-    let totals = totals_line(heap, outcomes.counts)?;
-    text.push_str(totals.as_str())?;
-    let gap = gap_line(heap, outcomes.gap)?;
-    text.push_str(gap.as_str())?;
-    let last = last_line(heap, outcomes.stop)?;
-    text.push_str(last.as_str())?;
+    let mut text = String::new(heap);
+    write_report(&mut text, setup, longest, outcomes)?;
     Ok(text)
 }

@@ -2,10 +2,9 @@
 //! longest that there can be.
 #![tactic(auto)]
 
-use anyhow::anyhow;
-use base::refusal::Refusal;
+use base::failure::Failure;
 use longrun::run::Watch;
-use report::timing::{TimingError, timing_of};
+use report::timing::timing_of;
 use setup::choice::Setup;
 use setup::message::{HELP, fault_text};
 use setup::options::{Command, command_of};
@@ -51,8 +50,7 @@ impl<'a> Progress<'a> {
         let seconds = self.start.elapsed(self.rt)?.as_secs();
         if seconds >= self.say {
             self.say = seconds.saturating_add(NEXT);
-            let limit = self.limit;
-            eprintln!(self.rt; "timing: {clocks} of at most {limit} clocks")?;
+            eprintln!(self.rt; "timing: {clocks} of at most {} clocks", self.limit)?;
         }
         Ok(())
     }
@@ -70,53 +68,40 @@ impl Watch for Progress<'_> {
 
 /// The arguments after the program's name.
 fn words_of(rt: &HostRuntime) -> anyhow::Result<Vec<String>> {
-    let mut words = Vec::new(rt.alloc());
-    for word in env::args(rt)?.skip(1) {
-        words.push(word)?;
-    }
-    Ok(words)
+    Ok(env::args(rt)?.skip(1).collect(rt.alloc())?)
 }
 
-/// Runs the image on the machine of a set-up; false where it is refused.
-fn run(rt: &HostRuntime, setup: &Setup) -> anyhow::Result<bool> {
+/// Runs the image on the machine of a set-up; a failure where it is refused.
+fn run(rt: &HostRuntime, setup: &Setup) -> anyhow::Result<ExitCode> {
     let mut image = Vec::new(rt.alloc());
     rt.stdin().read_to_end(&mut image)?;
     let mut progress = Progress::new(rt, setup.clocks)?;
     match timing_of(rt.alloc(), setup, image, &mut progress) {
         Ok(text) => {
             print!(rt; "{text}")?;
-            Ok(true)
+            Ok(ExitCode::SUCCESS)
         }
-        Err(TimingError::Refused(why)) => {
-            let number = why.number();
-            println!(rt; "refused {number}")?;
-            Ok(false)
+        Err(Failure::Refused(why)) => {
+            println!(rt; "{why}")?;
+            Ok(ExitCode::FAILURE)
         }
-        Err(TimingError::NoMemory) => Err(anyhow!("there is not enough memory")),
+        Err(failure) => Err(failure.into()),
     }
 }
 
-/// Does what the arguments ask for; false where something is refused.
-fn work(rt: &HostRuntime) -> anyhow::Result<bool> {
-    let words = words_of(rt)?;
+/// Does what the arguments ask for; a failure where something is refused.
+fn main(rt: HostRuntime) -> anyhow::Result<ExitCode> {
+    let words = words_of(&rt)?;
     match command_of(words.as_slice()) {
-        Ok(Command::Run(setup)) => run(rt, &setup),
+        Ok(Command::Run(setup)) => run(&rt, &setup),
         Ok(Command::Help) => {
             print!(rt; "{HELP}")?;
-            Ok(true)
+            Ok(ExitCode::SUCCESS)
         }
         Err(fault) => {
             let line = fault_text(rt.alloc(), words.as_slice(), fault)?;
             eprintln!(rt; "{line}")?;
-            Ok(false)
+            Ok(ExitCode::FAILURE)
         }
-    }
-}
-
-fn main(rt: HostRuntime) -> anyhow::Result<ExitCode> {
-    if work(&rt)? {
-        Ok(ExitCode::SUCCESS)
-    } else {
-        Ok(ExitCode::FAILURE)
     }
 }

@@ -1,8 +1,10 @@
 //! Prints of a loop that stores, loads and counts down, held to prints of another model, and what is refused.
+use base::failure::Failure;
+use listing::image::bytes_of;
 use longrun::run::Unwatched;
-use report::timing::{TimingError, timing_of};
+use report::timing::timing_of;
 use setup::choice::{LayerChoice, PredictorChoice, Setup, SimpleChoice, StackChoice};
-use std::alloc::{AllocError, Global};
+use std::alloc::Global;
 use std::process::Abort;
 use std::test::Fail;
 
@@ -16,39 +18,12 @@ const LOOP: [u32; 6] = [
     0x0000_0073,
 ];
 
-const FLAT: StackChoice = StackChoice {
-    top: LayerChoice::Plain,
-    middle: LayerChoice::Plain,
-    bottom: LayerChoice::Plain,
-};
-
-const DEFAULT: Setup = Setup {
-    predictor: PredictorChoice::Simple(SimpleChoice::Never),
-    instructions: FLAT,
-    data: FLAT,
-    data_size: 4096,
-    start: 0,
-    clocks: 1000,
-    log: false,
-};
-
 /// Wait states over a flat memory.
 fn waits(states: u32) -> StackChoice {
     StackChoice {
-        top: LayerChoice::WaitStates(states),
-        ..FLAT
+        top: Some(LayerChoice::WaitStates(states)),
+        ..StackChoice::FLAT
     }
-}
-
-/// Words as the bytes of an image.
-fn bytes_of(heap: Global, words: &[u32]) -> Result<Vec<u8>, AllocError> {
-    let mut bytes = Vec::new(heap);
-    for word in words {
-        for byte in word.to_le_bytes() {
-            bytes.push(byte)?;
-        }
-    }
-    Ok(bytes)
 }
 
 /// The set-up prints this of the loop.
@@ -69,11 +44,11 @@ fn refuses(
     let image = vec![in heap; 0u8; bytes]?;
     match timing_of(heap, &setup, image, &mut Unwatched) {
         Ok(_) => Err(Fail::new("it is not refused")),
-        Err(TimingError::Refused(why)) => {
+        Err(Failure::Refused(why)) => {
             assert_eq!(rt; why.number(), number);
             Ok(())
         },
-        Err(TimingError::NoMemory) => Err(Fail::new("there is no memory")),
+        Err(failure) => Err(failure.into()),
     }
 }
 
@@ -82,7 +57,7 @@ fn flat_memories_and_never(rt: HostRuntime) -> Result<(), Fail> {
     prints(
         &rt,
         rt.alloc(),
-        DEFAULT,
+        Setup::DEFAULT,
         "predictor never\ninstructions flat longest 0\ndata flat longest 0\nfirst retirement within 5 clocks, each next within 3\nclocks 34 fetched 28 retired 21 dropped 6 in flight 0\nlongest gap 5\nstop 11 14\n",
     )
 }
@@ -93,12 +68,12 @@ fn a_tournament_over_waiting_memories(rt: HostRuntime) -> Result<(), Fail> {
         predictor: PredictorChoice::Tournament(SimpleChoice::Bimodal, SimpleChoice::Gshare),
         instructions: waits(1),
         data: StackChoice {
-            top: LayerChoice::WriteBuffer,
-            middle: LayerChoice::WaitStates(2),
-            ..FLAT
+            top: Some(LayerChoice::WriteBuffer),
+            middle: Some(LayerChoice::WaitStates(2)),
+            ..StackChoice::FLAT
         },
         clocks: 200,
-        ..DEFAULT
+        ..Setup::DEFAULT
     };
     prints(
         &rt,
@@ -113,12 +88,12 @@ fn nothing_retires_in_three_clocks(rt: HostRuntime) -> Result<(), Fail> {
     let setup = Setup {
         predictor: PredictorChoice::Simple(SimpleChoice::Backward),
         data: StackChoice {
-            top: LayerChoice::WaitStates(15),
-            middle: LayerChoice::WriteBuffer,
-            bottom: LayerChoice::WaitStates(3),
+            top: Some(LayerChoice::WaitStates(15)),
+            middle: Some(LayerChoice::WriteBuffer),
+            bottom: Some(LayerChoice::WaitStates(3)),
         },
         clocks: 3,
-        ..DEFAULT
+        ..Setup::DEFAULT
     };
     prints(
         &rt,
@@ -133,13 +108,13 @@ fn three_buffers_and_few_bytes(rt: HostRuntime) -> Result<(), Fail> {
     let setup = Setup {
         predictor: PredictorChoice::Simple(SimpleChoice::Bimodal),
         instructions: StackChoice {
-            top: LayerChoice::WriteBuffer,
-            middle: LayerChoice::WriteBuffer,
-            bottom: LayerChoice::WriteBuffer,
+            top: Some(LayerChoice::WriteBuffer),
+            middle: Some(LayerChoice::WriteBuffer),
+            bottom: Some(LayerChoice::WriteBuffer),
         },
         data_size: 16,
         clocks: 40,
-        ..DEFAULT
+        ..Setup::DEFAULT
     };
     prints(
         &rt,
@@ -156,7 +131,7 @@ fn the_tables_first(rt: HostRuntime) -> Result<(), Fail> {
         data: waits(2),
         clocks: 12,
         log: true,
-        ..DEFAULT
+        ..Setup::DEFAULT
     };
     prints(
         &rt,
@@ -169,13 +144,13 @@ fn the_tables_first(rt: HostRuntime) -> Result<(), Fail> {
 #[test]
 fn what_is_refused(rt: HostRuntime) -> Result<(), Fail> {
     let heap = rt.alloc();
-    refuses(&rt, heap, DEFAULT, 65537, 1)?;
+    refuses(&rt, heap, Setup::DEFAULT, 65537, 1)?;
     refuses(
         &rt,
         heap,
         Setup {
             data_size: 8,
-            ..DEFAULT
+            ..Setup::DEFAULT
         },
         16,
         1,
@@ -185,7 +160,7 @@ fn what_is_refused(rt: HostRuntime) -> Result<(), Fail> {
         heap,
         Setup {
             data: waits(16),
-            ..DEFAULT
+            ..Setup::DEFAULT
         },
         16,
         2,
@@ -196,7 +171,7 @@ fn what_is_refused(rt: HostRuntime) -> Result<(), Fail> {
         Setup {
             instructions: waits(16),
             data_size: 8,
-            ..DEFAULT
+            ..Setup::DEFAULT
         },
         16,
         2,
@@ -206,7 +181,7 @@ fn what_is_refused(rt: HostRuntime) -> Result<(), Fail> {
         heap,
         Setup {
             start: 2,
-            ..DEFAULT
+            ..Setup::DEFAULT
         },
         16,
         3,
@@ -216,7 +191,7 @@ fn what_is_refused(rt: HostRuntime) -> Result<(), Fail> {
         heap,
         Setup {
             start: 16,
-            ..DEFAULT
+            ..Setup::DEFAULT
         },
         16,
         3,

@@ -24,7 +24,7 @@ pub struct Counted {
 
 impl Counted {
     /// Whether it is this request that was told Wait.
-    #[tactic(auto, using(crate::proofs::Requests::request_says, crate::proofs::Requests::request_is))]
+    #[tactic(auto, using(crate::proofs::Requests::request_says, crate::proofs::Requests::request_one))]
     fn is_of(self, request: Request) -> bool
         ensures same { result ≡ same_request self.request request }
         ensures one { OnTrue result (self.request ≡ request) }

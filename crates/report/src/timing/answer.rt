@@ -1,9 +1,9 @@
 //! From a set-up and an input to the print.
 ghost use Rattle.report.specs.Timings.{TimingAnswer};
 
-use super::TimingError;
-use super::assembly::{Assembly, assemble};
+use super::assembly::assemble;
 use super::running::run_and_report;
+use base::failure::Failure;
 use listing::image::padded;
 use longrun::run::Watch;
 use setup::choice::Setup;
@@ -16,14 +16,10 @@ pub fn timing_of<W: Watch>(
     setup: &Setup,
     input: Vec<u8>,
     watch: &mut W,
-) -> Result<String, TimingError>
+) -> Result<String, Failure>
     ensures { TimingAnswer setup.now input.items result }
 {
     let image = padded(input)?;
-    let Assembly {
-        mut machine,
-        longest,
-    } = assemble(heap, setup, image)?;
-    let text = run_and_report(heap, setup, &mut machine, longest, watch)?;
-    Ok(text)
+    let mut assembly = assemble(heap, setup, image)?;
+    Ok(run_and_report(heap, setup, &mut assembly, watch)?)
 }

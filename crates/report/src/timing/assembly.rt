@@ -1,38 +1,36 @@
 //! The machine of a set-up.
-ghost use Rattle.std.specs.Prelude.{◌≡◌, true, length, vec_len};
-ghost use Rattle.memory.specs.Flat.{flat_fits};
 ghost use Rattle.report.specs.Timings.{StackAnswer, DataAnswer, AssemblyAnswer};
 
-use super::TimingError;
 use crate::lines::Longest;
+use base::failure::Failure;
 use choice::boxed::Boxed;
 use choice::predictors::Chosen;
 use choice::stack::{Stack, build};
+use listing::image::PaddedImage;
 use memory::{Flat, Memory};
 use pipeline::machine::{Machine, check, load};
+use predictor::Predictor;
 use setup::choice::{Setup, StackChoice};
-use std::alloc::{AllocError, Global};
+use std::alloc::Global;
 
 /// A machine that is loaded, and the longest waits of its memories.
 #[derive(Drop)]
-pub(crate) struct Assembly {
-    pub machine: Machine<Chosen, Boxed<Stack>, Boxed<Stack>>,
+pub(crate) struct Assembly<P: Predictor, I: Memory, D: Memory> {
+    pub machine: Machine<P, I, D>,
     pub longest: Longest,
 }
 
 /// The chosen stack over these bytes.
-fn stacked(heap: Global, bytes: Vec<u8>, choice: StackChoice) -> Result<Boxed<Stack>, TimingError>
+fn stacked(heap: Global, bytes: Vec<u8>, choice: StackChoice) -> Result<Boxed<Stack>, Failure>
     ensures { StackAnswer bytes choice result }
 {
     let stack = build(bytes, choice)?;
-    match Boxed::new(heap, stack) {
-        Ok(stack) => Ok(stack),
-        Err(_) => Err(TimingError::NoMemory),
-    }
+    Ok(Boxed::new(heap, stack)?)
 }
 
 /// The chosen stack over zero bytes of data.
-fn data_memory(heap: Global, setup: &Setup) -> Result<Boxed<Stack>, TimingError>
+#[tactic(auto, using(crate::proofs::Refusing::data_answer))]
+fn data_memory(heap: Global, setup: &Setup) -> Result<Boxed<Stack>, Failure>
     ensures { DataAnswer setup.now result }
 {
     let size = setup.data_size as usize;
@@ -42,11 +40,15 @@ fn data_memory(heap: Global, setup: &Setup) -> Result<Boxed<Stack>, TimingError>
 }
 
 /// Loads a machine with the chosen predictor and stacks, over an image and zero bytes of data.
-pub(crate) fn assemble(heap: Global, setup: &Setup, image: Vec<u8>) -> Result<Assembly, TimingError>
-    requires { flat_fits (vec_len image) ≡ true }
-    ensures { AssemblyAnswer setup.now image.items result }
+#[tactic(auto, using(crate::proofs::Refusing::data_refused_by))]
+pub(crate) fn assemble(
+    heap: Global,
+    setup: &Setup,
+    image: PaddedImage,
+) -> Result<Assembly<Chosen, Boxed<Stack>, Boxed<Stack>>, Failure>
+    ensures { AssemblyAnswer setup.now image.bytes.items result }
 {
-    let instructions = stacked(heap, image, setup.instructions)?;
+    let instructions = stacked(heap, image.into_bytes(), setup.instructions)?;
     let data = data_memory(heap, setup)?;
     check(0, setup.start, &instructions)?;
     let longest = Longest {

@@ -2,13 +2,14 @@
 ghost use Rattle.std.specs.Prelude.{◌≡◌, true, false, IfOk, string_bytes};
 ghost use Rattle.report.specs.Timings.{Shown, outcomes_of};
 
-use crate::lines::{Longest, Outcomes, report};
-use base::log::Log;
+use super::assembly::Assembly;
+use crate::lines::{Outcomes, report, write_report};
 use clocking::state::ClockRecord;
 use clocktable::table::tables;
 use longrun::gaps::Gaps;
 use longrun::run::{Watch, run_to};
 use memory::Memory;
+use pipeline::journal::Journal;
 use pipeline::machine::{Machine, RetiredAt};
 use predictor::Predictor;
 use setup::choice::Setup;
@@ -32,38 +33,48 @@ fn outcomes_of<P: Predictor, I: Memory, D: Memory>(
 fn unlogged<P: Predictor, I: Memory, D: Memory, W: Watch>(
     heap: Global,
     setup: &Setup,
-    machine: &mut Machine<P, I, D>,
-    longest: Longest,
+    assembly: &mut Assembly<P, I, D>,
     watch: &mut W,
 ) -> Result<String, AllocError>
     requires { setup.now.log ≡ false }
-    ensures { IfOk result (λ t. Shown P.Predictor.table I.Memory.means D.Memory.means setup.now longest machine.old (string_bytes t)) }
+    ensures { IfOk result (λ t. Shown P.Predictor.table I.Memory.means D.Memory.means setup.now assembly.old.longest assembly.old.machine (string_bytes t)) }
 {
     let mut gaps = Gaps::new();
-    run_to(machine, setup.clocks, &mut gaps, watch);
-    report(heap, setup, longest, outcomes_of(machine, &gaps))
+    run_to(&mut assembly.machine, setup.clocks, &mut gaps, watch);
+    report(
+        heap,
+        setup,
+        assembly.longest,
+        outcomes_of(&assembly.machine, &gaps),
+    )
 }
 
 /// Runs the machine up to the limit of the set-up, with every clock in the logs, and reports after the tables.
 fn logged<P: Predictor, I: Memory, D: Memory>(
     heap: Global,
     setup: &Setup,
-    machine: &mut Machine<P, I, D>,
-    longest: Longest,
+    assembly: &mut Assembly<P, I, D>,
 ) -> Result<String, AllocError>
     requires { setup.now.log ≡ true }
-    ensures { IfOk result (λ t. Shown P.Predictor.table I.Memory.means D.Memory.means setup.now longest machine.old (string_bytes t)) }
+    ensures { IfOk result (λ t. Shown P.Predictor.table I.Memory.means D.Memory.means setup.now assembly.old.longest assembly.old.machine (string_bytes t)) }
 {
     let mut retired_slots = vec![in heap; RetiredAt::EMPTY; setup.clocks as usize]?;
     let mut clock_slots = vec![in heap; ClockRecord::EMPTY; setup.clocks as usize]?;
-    let mut retired = Log::new(retired_slots.as_mut_slice());
-    let mut clocks = Log::new(clock_slots.as_mut_slice());
-    machine.run(setup.clocks, &mut retired, &mut clocks);
+    let mut journal = Journal::new(retired_slots.as_mut_slice(), clock_slots.as_mut_slice());
+    assembly.machine.run(setup.clocks, &mut journal);
     let mut gaps = Gaps::new();
-    gaps.note(retired.records());
-    let mut text = tables(heap, retired.records(), clocks.records())?;
-    let end = report(heap, setup, longest, outcomes_of(machine, &gaps))?;
-    text.push_str(end.as_str())?;
+    gaps.note(journal.retirements.records());
+    let mut text = tables(
+        heap,
+        journal.retirements.records(),
+        journal.clocks.records(),
+    )?;
+    write_report(
+        &mut text,
+        setup,
+        assembly.longest,
+        outcomes_of(&assembly.machine, &gaps),
+    )?;
     Ok(text)
 }
 
@@ -71,15 +82,14 @@ fn logged<P: Predictor, I: Memory, D: Memory>(
 pub(crate) fn run_and_report<P: Predictor, I: Memory, D: Memory, W: Watch>(
     heap: Global,
     setup: &Setup,
-    machine: &mut Machine<P, I, D>,
-    longest: Longest,
+    assembly: &mut Assembly<P, I, D>,
     watch: &mut W,
 ) -> Result<String, AllocError>
-    ensures { IfOk result (λ t. Shown P.Predictor.table I.Memory.means D.Memory.means setup.now longest machine.old (string_bytes t)) }
+    ensures { IfOk result (λ t. Shown P.Predictor.table I.Memory.means D.Memory.means setup.now assembly.old.longest assembly.old.machine (string_bytes t)) }
 {
     if setup.log {
-        logged(heap, setup, machine, longest)
+        logged(heap, setup, assembly)
     } else {
-        unlogged(heap, setup, machine, longest, watch)
+        unlogged(heap, setup, assembly, watch)
     }
 }

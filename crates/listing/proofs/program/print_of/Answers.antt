@@ -14,10 +14,10 @@ returns c =
     let m = c.new-machine.result in
     let made = c.new-machine.ensures in
     let stop = c.run-stop.result in
-    let items : vec_items m.image.bytes ≡ vec_items c.args.image.bytes = rw (made.memories.0, c.new.ensures.bytes, c.into_bytes.ensures.bytes) in
-    let size : m.image.size ≡ length (vec_items c.args.image.bytes) = rw (made.memories.0, c.new.ensures.size, c.into_bytes.ensures.fits, c.into_bytes.ensures.bytes) c.args.image.bytes.ok.0 in
-    let room : m.«data».size ≡ 4096 = rw (made.memories.1, c.new-2.ensures.size, c.in_ok-data.ensures.len) in
-    let zeros : vec_items m.«data».bytes ≡ replicate 4096 0 = rw (made.memories.1, c.new-2.ensures.bytes) (c.in_ok-data.ensures.items_if_clones_equal (λ y e. e)) in
+    let items : vec_items m.image.bytes ≡ vec_items c.args.image.bytes = rw (made.memories.0, c.into_memory.ensures.bytes) in
+    let size : m.image.size ≡ length (vec_items c.args.image.bytes) = rw (made.memories.0, c.into_memory.ensures.size) in
+    let room : m.«data».size ≡ 4096 = rw (made.memories.1, c.in_ok-data_memory.ensures.1) in
+    let zeros : vec_items m.«data».bytes ≡ replicate 4096 0 = rw (made.memories.1, c.in_ok-data_memory.ensures.0) in
     IfOk-weaker c.sequence_text.result (λ t. string_bytes t ≡ sequence_text c.records.result.now stop)
     (λ t. Printed (vec_items c.args.image.bytes) (string_bytes t))
     (λ t e. record {

@@ -1,11 +1,8 @@
-use Rattle.std.proofs.Common.{◌≡◌, length, replicate, vec_items, string_bytes, refl, ◌∙◌, lit≤}
+use Rattle.std.proofs.Common.{◌≡◌, vec_items, string_bytes, ap, ◌∙◌, lit≤}
 use Rattle.std.proofs.lemmas.Result.{IfOk-weaker}
-use Rattle.base.specs.Logs.{records}
 use Rattle.memory.specs.Flat.{flat_means}
 use Rattle.predictor.specs.Tables.{never}
 use Rattle.clocktable.specs.Tables.{clock_table}
-use Rattle.longrun.specs.LongRuns.{empty_logs}
-use Rattle.pipeline.specs.Logged.{logs}
 use Rattle.report.specs.Clocklogs.{ClockPrinted}
 use Rattle.report.proofs.Running.{whole_run}
 use Rattle.report.proofs.clocklog.print_of.Goals as goal
@@ -13,22 +10,18 @@ use Rattle.report.proofs.clocklog.print_of.Goals as goal
 pub returns : goal.returns
 returns c =
     let starts = c.load-machine.ensures.starts in
-    let fresh : logs c.new-retired.result c.new-clocks.result ≡ empty_logs 1000 1000 =
-    λ k. record { retired_room = c.new-retired.ensures.room k; retired = c.new-retired.ensures.empty k; clock_room = c.new-clocks.ensures.room k; clocks = c.new-clocks.ensures.empty k } in
-    let whole = whole_run (λ _. never) flat_means flat_means 1000 _ _ c.load-machine.result c.run.new.self c.run.result (records c.run.new.retirements) (records c.run.new.clocks) (lit≤ tt) fresh c.run.ensures.does refl refl in
-    let size : c.new.result.size ≡ length (vec_items c.args.image) = rw (c.new.ensures.size, c.requires) c.args.image.ok.0 in
-    let room : c.new-2.result.size ≡ 4096 = rw (c.new-2.ensures.size, c.in_ok-data.ensures.len) in
-    let zeros : vec_items c.new-2.result.bytes ≡ replicate 4096 0 = rw c.new-2.ensures.bytes (c.in_ok-data.ensures.items_if_clones_equal (λ y e. e)) in
+    let made = c.new-journal.ensures in
+    let whole = whole_run (λ _. never) flat_means flat_means 1000 c.new-journal.result c.run.new.journal c.load-machine.result c.run.new.self c.run.result (lit≤ tt) made.empty made.rooms c.run.ensures.does in
     IfOk-weaker c.clock_table.result (λ t. string_bytes t ≡ clock_table c.records.result.now c.records-2.result.now c.stopped.result c.counts.result)
-    (λ t. ClockPrinted (vec_items c.args.image) (string_bytes t))
+    (λ t. ClockPrinted (vec_items c.args.image.bytes) (string_bytes t))
     (λ t e. record {
       predictor = _;
-      instructions = c.new.result;
-      words = c.new-2.result;
-      image_so = rw c.new.ensures.bytes;
-      image_whole = size;
-      data_so = zeros;
-      data_whole = room;
+      instructions = c.into_memory.result;
+      words = c.in_ok-data_memory.field-0;
+      image_so = ap vec_items c.into_memory.ensures.bytes;
+      image_whole = c.into_memory.ensures.size;
+      data_so = c.in_ok-data_memory.ensures.0;
+      data_whole = c.in_ok-data_memory.ensures.1;
       first = c.load-machine.result;
       loaded = starts;
       agrees = c.load-machine.ensures.agrees;

@@ -4,16 +4,8 @@ use Rattle.memory.specs.Flat.{flat_fits}
 use Rattle.pipeline.specs.Calls.{load_fits}
 use Rattle.choice.specs.Stacks.{layers_fit}
 use Rattle.report.specs.Timings.{means}
-use Rattle.report.proofs.Refusing.{data_refused_by, sound_setup}
+use Rattle.report.proofs.Refusing.{sound_setup}
 use Rattle.report.proofs.timing.assembly.assemble.Goals as goal
-
-pub returns-in_err-data : goal.returns-in_err-data
-returns-in_err-data c =
-    let s = c.args.setup.now in
-    let b = c.in_ok-instructions.ensures in
-    let f = c.from_residual-in_err-data.ensures in
-    data_refused_by s (vec_items c.args.image) c.in_err-data.field-0.0 c.from_residual-in_err-data.result f.0 f.1
-    (and_parts (flat_fits (vec_len c.args.image)) (layers_fit s.instructions) b.fits).1 c.in_err-data.ensures
 
 pub returns : goal.returns
 returns c =
@@ -21,16 +13,17 @@ returns c =
     let i = c.in_ok-instructions.instructions in
     let b = c.in_ok-instructions.ensures in
     let d = c.in_ok-data.ensures in
-    let fits = (and_parts (flat_fits (vec_len c.args.image)) (layers_fit s.instructions) b.fits).1 in
-    let size : means.view.size i ≡ length (vec_items c.args.image) = b.size ∙ c.args.image.ok.0 in
-    let starts = ap (λ (n : ℕ). load_fits 0 n s.start) (sym size) ∙ c.in_ok-check.ensures in (
-      sound_setup s (length (vec_items c.args.image)) fits d.0 d.1 starts,
+    let fits = (and_parts (flat_fits (vec_len c.into_bytes.result)) (layers_fit s.instructions) b.fits).1 in
+    let size : means.view.size i ≡ length (vec_items c.into_bytes.result) = b.size ∙ c.into_bytes.result.ok.0 in
+    let starts = ap (λ (n : ℕ). load_fits 0 n s.start) (sym size) ∙ c.in_ok-check.ensures in
+    rw (← c.into_bytes.ensures.bytes) (
+      sound_setup s (length (vec_items c.into_bytes.result)) fits d.0 d.1 starts,
       record {
         predictor = c.new-predictor.result;
         instructions = i;
         words = c.in_ok-data.«data»;
         guesses = c.new-predictor.ensures;
-        image_stacked = record { vector = c.args.image; holds = refl; built = b };
+        image_stacked = record { vector = c.into_bytes.result; holds = refl; built = b };
         data_stacked = d.2;
         loaded = c.load-machine.ensures.starts;
         agrees = c.load-machine.ensures.agrees;

@@ -1,12 +1,7 @@
-use Rattle.std.proofs.Common.{◌≡◌, ◌≤◌, List, ◌++◌, length, string_bytes, sym, refl, ap, ◌∙◌, arith}
-use Rattle.listing.proofs.Lines.{pushed}
+use Rattle.std.proofs.Common.{◌≡◌, ◌≤◌, ◌++◌, string_bytes, arith}
 use Rattle.base.specs.Logs.{records, room}
 use Rattle.clocktable.specs.Tables.{two_tables}
-use Rattle.longrun.specs.Gaps.{gaps_after}
-use Rattle.longrun.specs.LongRuns.{empty_logs}
-use Rattle.pipeline.specs.Logged.{logs}
-use Rattle.pipeline.specs.declared.machine.RetiredAt.{RetiredAt}
-use Rattle.clocking.specs.declared.state.ClockRecord.{ClockRecord}
+use Rattle.longrun.specs.Gaps.{none_yet, gaps_after}
 use Rattle.report.specs.Lines.{report_text}
 use Rattle.report.proofs.Running.{whole_run, logged_shown}
 use Rattle.report.proofs.timing.running.logged.Goals as goal
@@ -14,21 +9,15 @@ use Rattle.report.proofs.timing.running.logged.Goals as goal
 pub returns : goal.returns
 returns g c =
     let s = c.args.setup.now in
-    let w = c.args.longest in
+    let w = c.args.assembly.now.longest in
+    let filled = c.run.new.journal in
     let bound : s.clocks ≤ 4294967295 = omega arith in
-    let rs = c.in_ok-retired_slots.retired_slots in
-    let cs = c.in_ok-clock_slots.clock_slots in
-    let retired_room : room c.new-retired.result ≡ s.clocks =
-    c.new-retired.ensures.room ∙ ap (λ (l : List RetiredAt). length l) c.as_mut_slice.ensures.value ∙ sym rs.ok.0 ∙ c.in_ok-retired_slots.ensures.len in
-    let clock_room : room c.new-clocks.result ≡ s.clocks =
-    c.new-clocks.ensures.room ∙ ap (λ (l : List ClockRecord). length l) c.as_mut_slice-2.ensures.value ∙ sym cs.ok.0 ∙ c.in_ok-clock_slots.ensures.len in
-    let fresh : logs c.new-retired.result c.new-clocks.result ≡ empty_logs s.clocks s.clocks =
-    λ k. record { retired_room = retired_room k; retired = c.new-retired.ensures.empty k; clock_room = clock_room k; clocks = c.new-clocks.ensures.empty k } in
-    let gaps = c.note.ensures ∙ (λ k. gaps_after (c.new-gaps.ensures k) (c.records.ensures k)) in
-    let text : string_bytes c.push_str.new.self ≡ two_tables c.records-2.result.now c.records-3.result.now ++ report_text s w c.outcomes_of.result =
-    pushed _ _ _ _ _ c.in_ok-text.ensures (c.as_str.ensures.value ∙ c.in_ok-end.ensures) c.in_ok-push_str.ensures.bytes in
-    let whole = whole_run g.P.Predictor.table g.I.Memory.means g.D.Memory.means s.clocks (logs c.new-retired.result c.new-clocks.result) (logs c.run.new.retirements c.run.new.clocks)
-    c.args.machine.now c.run.new.self c.run.result (records c.run.new.retirements) (records c.run.new.clocks) bound fresh c.run.ensures.does refl refl in
-    logged_shown g.P.Predictor.table g.I.Memory.means g.D.Memory.means s w c.args.machine.now c.run.new.self c.note.new.self c.outcomes_of.result
-    (records c.run.new.retirements) (records c.run.new.clocks) (string_bytes c.push_str.new.self) c.requires whole gaps c.outcomes_of.ensures
-    (text ∙ (λ k. two_tables (c.records-2.ensures k) (c.records-3.ensures k) ++ report_text s w c.outcomes_of.result))
+    let retired_room : room c.new-journal.result.retirements ≡ s.clocks = cc (c.new-journal.ensures.rooms.0, c.as_mut_slice.ensures.value, c.in_ok-retired_slots.retired_slots.ok.0, c.in_ok-retired_slots.ensures.len) in
+    let clock_room : room c.new-journal.result.clocks ≡ s.clocks = cc (c.new-journal.ensures.rooms.1, c.as_mut_slice-2.ensures.value, c.in_ok-clock_slots.clock_slots.ok.0, c.in_ok-clock_slots.ensures.len) in
+    let gaps : c.note.new.self ≡ gaps_after none_yet (records filled.retirements) = cc (c.note.ensures, c.new-gaps.ensures, c.records.ensures) in
+    let text : string_bytes c.write_report.new.text ≡ two_tables (records filled.retirements) (records filled.clocks) ++ report_text s w c.outcomes_of.result =
+    cc (c.in_ok-write_report.ensures, c.in_ok-text.ensures, c.records-2.ensures, c.records-3.ensures) in
+    let whole = whole_run g.P.Predictor.table g.I.Memory.means g.D.Memory.means s.clocks c.new-journal.result filled
+    c.args.assembly.now.machine c.run.new.self c.run.result bound c.new-journal.ensures.empty (retired_room, clock_room) c.run.ensures.does in
+    logged_shown g.P.Predictor.table g.I.Memory.means g.D.Memory.means s w c.args.assembly.now.machine c.run.new.self c.note.new.self c.outcomes_of.result
+    (records filled.retirements) (records filled.clocks) (string_bytes c.write_report.new.text) c.requires whole gaps c.outcomes_of.ensures text

@@ -8,10 +8,10 @@ use Rattle.report.proofs.timing.running.unlogged.Goals as goal
 pub returns : goal.returns
 returns g c =
     let s = c.args.setup.now in
-    let w = c.args.longest in
+    let w = c.args.assembly.now.longest in
     let table = g.P.Predictor.table in
     let text = g.I.Memory.means in
     let words = g.D.Memory.means in
-    IfOk-weaker c.report.result (λ t. string_bytes t ≡ report_text s w c.outcomes_of.result) (λ t. Shown table text words s w c.args.machine.now (string_bytes t))
-    (λ t e. unlogged_shown table text words s w c.args.machine.now c.run_to.new.machine c.new-gaps.result c.run_to.new.gaps c.outcomes_of.result (string_bytes t) c.requires c.new-gaps.ensures c.run_to.ensures c.outcomes_of.ensures e)
+    IfOk-weaker c.report.result (λ t. string_bytes t ≡ report_text s w c.outcomes_of.result) (λ t. Shown table text words s w c.args.assembly.now.machine (string_bytes t))
+    (λ t e. unlogged_shown table text words s w c.args.assembly.now.machine c.run_to.new.machine c.new-gaps.result c.run_to.new.gaps c.outcomes_of.result (string_bytes t) c.requires c.new-gaps.ensures c.run_to.ensures c.outcomes_of.ensures e)
     c.report.ensures

@@ -12,6 +12,7 @@ mod mnemonic;
 pub mod text;
 
 /// The line of assembly.
+// What `AssemblyText` shows, as a text of its own.
 pub fn assembly(heap: Global, instruction: Instruction) -> Result<String, AllocError>
     ensures { IfOk result (λ line. string_bytes line ≡ assembly_text instruction) }
 {

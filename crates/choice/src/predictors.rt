@@ -23,6 +23,7 @@ pub enum Simple<N = Never, W = Backward, C = Bimodal, G = Gshare> {
 
 impl Simple {
     /// The fresh predictor of that name.
+    // `new` and no From: the choice is only its name.
     pub fn new(choice: SimpleChoice) -> Simple
         ensures { simple_table result ≡ simple_fresh choice }
     {
@@ -67,6 +68,7 @@ pub enum Chosen<S = Simple, T = Tournament<Simple, Simple>> {
 
 impl Chosen {
     /// The fresh predictor of that name.
+    // `new` and no From: the choice is only its name.
     pub fn new(choice: PredictorChoice) -> Chosen
         ensures { chosen_table result ≡ chosen_fresh choice }
     {

@@ -51,7 +51,7 @@ pub struct Completed {
 }
 
 /// A latch is empty, or holds an instruction that has a cause to stop, or one that has none so far.
-// Three states with names, of which the rule of the clock speaks: an Option of a Result would be no plainer.
+// Three states with names, of which the rule of the clock speaks: an Option of a Result would be no plainer. None are compared.
 #[derive(Clone, Copy)]
 pub enum Latch<T> {
     Empty,

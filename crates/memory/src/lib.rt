@@ -18,6 +18,7 @@ pub use flat::{Flat, flat_replies_follow_calls};
 pub const MOST_WAITS: u32 = 4095;
 
 /// What a memory answers to a request that it serves.
+// No Option: that a write is done is an answer, and not that there is none.
 #[derive(Clone, Copy, PartialEq, Eq, Debug)]
 pub enum Answer {
     /// The word that was read.

@@ -14,9 +14,9 @@ pub fn pause<P: Predictor, I: Memory, D: Memory>(
     ensures { Paused machine.old result machine.new }
 {
     let token = machine.hold()?;
+    // no `map_err`: what comes back holds a token, which may not be dropped
     match machine.release(token) {
         Ok(()) => Ok(()),
-        // no `map_err`: what comes back holds a token, which may not be dropped
         Err(_) => unreachable(),
     }
 }

@@ -29,6 +29,7 @@ pub fn in_flight(latches: &Latches) -> u32
 pub fn has_fetched(asked: Result<Option<Request>, Cause>, arrival: &Option<Fetched>) -> bool
     ensures { result ≡ has_fetched asked arrival.now }
 {
+    // a match, as the rule tells the cases apart: a fault is put into D too
     match asked {
         Err(_) => true,
         Ok(request) => request.is_some() && arrival.is_some(),

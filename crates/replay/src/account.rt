@@ -21,6 +21,8 @@ pub struct Account {
     text: String,
     retired: u32,
     digest: Digest,
+    /// How many words of the memory are not what they were at first.
+    changed: u32,
 }
 
 impl Account {
@@ -30,6 +32,7 @@ impl Account {
             text: String::new(heap),
             retired: 0,
             digest: Digest::EMPTY,
+            changed: 0,
         }
     }
 
@@ -80,8 +83,9 @@ impl Account {
     }
 
     /// Adds a word of the memory that is not what it was at first, if not too many were told.
-    pub fn changed(&mut self, count: u32, address: u32, word: u32) -> Result<(), AllocError> {
-        if count > CHANGED {
+    pub fn changed(&mut self, address: u32, word: u32) -> Result<(), AllocError> {
+        self.changed = self.changed.wrapping_add(1);
+        if self.changed > CHANGED {
             return Ok(());
         }
         let address = Hex(address);
@@ -90,9 +94,12 @@ impl Account {
     }
 
     /// Adds the digest of the memory, and how many of its words changed.
-    pub fn memory(&mut self, digest: Digest, changed: u32) -> Result<(), AllocError> {
-        let digest = digest.0;
-        writeln!(self.text, "memory {digest:016x} changed {changed}")
+    pub fn memory(&mut self, digest: Digest) -> Result<(), AllocError> {
+        writeln!(
+            self.text,
+            "memory {:016x} changed {}",
+            digest.0, self.changed
+        )
     }
 
     /// All that was told.

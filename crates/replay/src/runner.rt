@@ -84,7 +84,7 @@ impl<P: Predictor, I: Memory, D: Memory> Runner for pipeline::machine::Machine<P
 /// The word of the data memory at an address; 0 for a byte that is not there.
 fn word_at<R: Runner>(machine: &R, address: u32) -> u32 {
     let byte = |place| machine.data(address.wrapping_add(place)).unwrap_or(0);
-    u32::from_le_bytes([byte(0), byte(1), byte(2), byte(3)])
+    u32::from_le_bytes([0, 1, 2, 3].map(byte))
 }
 
 /// Adds what the registers hold.
@@ -98,16 +98,14 @@ fn registers<R: Runner>(machine: &R, account: &mut Account) -> Result<(), AllocE
 /// Adds what the memory holds, and which words are not those of the image.
 fn memory<R: Runner>(machine: &R, image: &[u8], account: &mut Account) -> Result<(), AllocError> {
     let mut digest = Digest::EMPTY;
-    let mut changed = 0u32;
     for (address, bytes) in (0..=u32::MAX).step_by(4).zip(image.chunks_exact(4)) {
         let word = word_at(machine, address);
         digest = digest.word(word);
         if word.to_le_bytes().as_slice() != bytes {
-            changed = changed.wrapping_add(1);
-            account.changed(changed, address, word)?;
+            account.changed(address, word)?;
         }
     }
-    account.memory(digest, changed)
+    account.memory(digest)
 }
 
 /// Runs a machine that was loaded with this image, and gives the account of it.

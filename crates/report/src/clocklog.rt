@@ -13,6 +13,7 @@ use predictor::never::Never;
 use std::alloc::{AllocError, Global};
 
 /// The most clocks that a run makes.
+// The limit of instructions that seqlog has is another.
 const LIMIT: usize = 1000;
 
 /// Clocks an image through the pipeline, from address 0, and prints what retired, the clocks and the counts.

@@ -35,6 +35,7 @@ pub struct Outcomes {
 }
 
 /// Writes the predictor and the two memories, with the longest waits that they state.
+// The set-up is what was asked for and the waits what its memories state: no type has both.
 fn write_setup(text: &mut String, setup: &Setup, longest: Longest) -> Result<(), AllocError>
     ensures { OnOk result (string_bytes text.new ≡ string_bytes text.old ++ setup_lines setup.now longest) }
 {

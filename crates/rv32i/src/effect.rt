@@ -97,6 +97,7 @@ impl Instruction {
     }
 
     /// How it uses the data memory, if it does.
+    // No From: most instructions make no access.
     #[tactic(auto, unfolding(crate::specs::Effects::access))]
     pub fn access(self) -> Option<Access>
         ensures { result ≡ access self }
@@ -110,6 +111,7 @@ impl Instruction {
 }
 
 /// What is computed of two operands; a shift goes by the low five bits of the second.
+// Two numbers, as the manual has them: a struct of the two would be built to be taken apart.
 pub fn arithmetic(op: RegisterOp, a: u32, b: u32) -> u32
     ensures { result ≡ arithmetic op a b }
 {
@@ -297,6 +299,7 @@ fn lanes_of(kind: StoreKind, address: u32) -> Lanes
 
 impl Access {
     /// Its width in bytes.
+    // A number of bytes, and no code.
     fn width(self) -> u32
         ensures is { result ≡ width self }
         ensures bound { 0 < result }
@@ -311,6 +314,7 @@ impl Access {
     }
 
     /// The cause where its address is not aligned to its width.
+    // An access has two causes, so each has a function and neither is a From.
     fn misaligned(self) -> Cause
         ensures { result ≡ misaligned self }
     {
@@ -321,6 +325,7 @@ impl Access {
     }
 
     /// The cause where its address is outside the data memory.
+    // The other of the two.
     fn outside(self) -> Cause
         ensures { result ≡ outside self }
     {

@@ -63,6 +63,7 @@ impl Registers {
     pub fn read(&self, source: Option<Register>) -> u32
         ensures { result ≡ operand self.now source }
     {
+        // a match, and no `map_or`: what is read stands beside what is written
         match source {
             Some(r) => self.values[r.number as usize],
             None => 0,

@@ -92,6 +92,7 @@ fn transfer<D: Memory>(data: &mut D, access: Option<Access>, res: u32, b: u32) -
 
 impl<I: Memory, D: Memory> Machine<I, D> {
     /// Does the instruction at the machine's address, unless there is a cause to stop.
+    // That the world stays the same speaks of before and after, and so stands in no type.
     fn advance(&mut self) -> Result<Retirement, Cause>
         ensures does { Advances (state_of D.Memory.means.view self.old) (step (world_of I.Memory.means.view D.Memory.means.view self.old) (state_of D.Memory.means.view self.old)) result (state_of D.Memory.means.view self.new) }
         ensures world { world_of I.Memory.means.view D.Memory.means.view self.new ≡ world_of I.Memory.means.view D.Memory.means.view self.old }
@@ -120,9 +121,11 @@ impl<I: Memory, D: Memory> Machine<I, D> {
         ensures aligned { self.old.address % 4 ≡ 0 → self.new.address % 4 ≡ 0 }
         ensures zero { slice_index self.old.registers.values 0 ≡ 0 → slice_index self.new.registers.values 0 ≡ 0 }
     {
+        // a stop is an answer, and no failure of what follows
         if let Some(stop) = self.stopped {
             return Err(stop);
         }
+        // no `map_err`: the machine is changed on the way
         match self.advance() {
             Ok(retirement) => Ok(retirement),
             Err(cause) => {

@@ -47,6 +47,7 @@ impl Retired {
             address,
             word,
             rd,
+            // a match, so that both cases are seen
             value: match rd {
                 Some(_) => value,
                 None => 0,

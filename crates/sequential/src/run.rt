@@ -18,6 +18,7 @@ impl<I: Memory, D: Memory> Machine<I, D> {
         ensures room { room log.new ≡ room log.old }
         ensures lent { log.new.slots.ghost_name ≡ log.old.slots.ghost_name }
     {
+        // steps until something ends them, and no search
         while !log.is_full() {
             match self.step() {
                 Ok(retirement) => {

@@ -21,6 +21,7 @@ pub enum Key {
 
 /// An option by its name.
 #[derive(Clone, Copy, PartialEq, Eq, Debug)]
+// No Option: the two that take no value are two options.
 enum Name {
     Valued(Key),
     Log,
@@ -53,6 +54,7 @@ pub struct Fault {
 
 /// What the words ask for.
 #[derive(Clone, Copy, PartialEq, Eq, Debug)]
+// No Option: help is asked for, and is not the lack of a run.
 pub enum Command {
     Run(Setup),
     Help,

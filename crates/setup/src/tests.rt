@@ -10,6 +10,7 @@ use std::test::Fail;
 /// The words of a line.
 fn words_of(heap: Global, line: &str) -> Result<Vec<String>, AllocError> {
     let mut words = Vec::new(heap);
+    // no `collect`: each word needs memory of its own
     for word in line.split_whitespace() {
         words.push(String::from_str(heap, word)?)?;
     }

@@ -47,10 +47,7 @@ fn a_run_to_the_stop(rt: HostRuntime) -> Result<(), Fail> {
     let run = machine.run(100, &mut journal);
     assert_eq!(rt; run.made, 5);
     assert_eq!(rt; run.why, Some(Refusal::Stopped));
-    assert_eq!(rt;
-        machine.clock(&mut journal),
-        Err(Refusal::Stopped)
-    );
+    assert_eq!(rt; machine.clock(&mut journal), Err(Refusal::Stopped));
     assert_eq!(rt; machine.register(1), Ok(2));
     assert_eq!(rt; machine.register(32), Err(Refusal::NotThere));
     assert_eq!(rt; machine.byte(15), Ok(0));
@@ -74,9 +71,6 @@ fn a_full_log(rt: HostRuntime) -> Result<(), Fail> {
     let run = machine.run(3, &mut journal);
     assert_eq!(rt; run.made, 2);
     assert_eq!(rt; run.why, Some(Refusal::LogFull));
-    assert_eq!(rt;
-        machine.run(0, &mut journal).why,
-        Some(Refusal::LogFull)
-    );
+    assert_eq!(rt; machine.run(0, &mut journal).why, Some(Refusal::LogFull));
     Ok(())
 }

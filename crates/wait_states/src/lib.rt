@@ -73,6 +73,7 @@ impl<M: Memory> WaitStates<M> {
         ensures states { result.states ≡ states }
         ensures counting { result.counting ≡ None }
     {
+        // a match, since only a layer that passes has the sum
         let (size, longest) = match WaitStates::check(&below, states) {
             Ok(()) => (below.size(), states + below.longest()),
             Err(_) => (0, 0),
@@ -119,6 +120,7 @@ impl<M: Memory> WaitStates<M> {
 }
 
 /// Counts one more wait state of a request, of so many; false where it has had them all.
+// A bool: what is counted stays in place, and nothing else is handed out.
 fn count(counting: &mut Option<Counted>, request: Request, states: u32) -> bool
     ensures waits { result ≡ nat_lt (told counting.old request) states }
     ensures after { counting.new ≡ (if result then Some (record { request = request; told = told counting.old request + 1 }) else counting.old) }
@@ -146,6 +148,7 @@ impl<M: Memory> Memory for WaitStates<M> {
 
     ghost obeys = { wait_lawful M.Memory.obeys };
 
+    // Each layer has these two: a trait for so few lines would be no plainer.
     fn read(&mut self, address: u32) -> Result<u32, Unserved> {
         match self.serve(Request::Read { address })? {
             Answer::Word(word) => Ok(word),

@@ -142,6 +142,7 @@ impl From<RegisterOp> for Codes {
 }
 
 /// A word of the U format.
+// The parameters are the format's own, in the manual's order: a struct for each format would be built to be taken apart.
 fn word_u(opcode: Field<7>, rd: Register, imm: u32) -> Result<u32, Refusal>
     ensures { result ≡ word_u opcode.value rd.number imm }
 {

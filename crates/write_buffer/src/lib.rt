@@ -54,6 +54,7 @@ impl<M: Memory> WriteBuffer<M> {
         ensures below { result.below ≡ below }
         ensures held { pending result.held ≡ [] }
     {
+        // a match, since only a layer that passes has the sum
         let (size, longest) = match WriteBuffer::check(&below) {
             Ok(()) => (below.size(), 5 * below.longest() + 4),
             Err(_) => (0, 0),
@@ -113,6 +114,7 @@ impl<M: Memory> Memory for WriteBuffer<M> {
 
     ghost obeys = { buffer_lawful M.Memory.obeys };
 
+    // Each layer has these two: a trait for so few lines would be no plainer.
     fn read(&mut self, address: u32) -> Result<u32, Unserved> {
         match self.serve(Request::Read { address })? {
             Answer::Word(word) => Ok(word),

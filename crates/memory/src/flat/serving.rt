@@ -27,6 +27,7 @@ impl Flat {
         ensures size { result.size ≡ (if flat_fits (vec_len bytes) then vec_len bytes else 0) }
     {
         let len = bytes.len();
+        // a match, since only a length that passes fits
         let size = match Flat::check(len) {
             Ok(()) => len as u32,
             Err(_) => 0,
@@ -45,6 +46,7 @@ impl Memory for Flat {
             return Err(Unserved::Outside);
         }
         let at = address as usize;
+        // by name, since a slice would have to be turned into an array again
         let bytes = [
             self.bytes[at],
             self.bytes[at + 1],
@@ -60,6 +62,7 @@ impl Memory for Flat {
         }
         let at = address as usize;
         let [b0, b1, b2, b3] = word.to_le_bytes();
+        // by name, as the lanes are
         put_byte(&mut self.bytes, at, b0, lanes.b0);
         put_byte(&mut self.bytes, at + 1, b1, lanes.b1);
         put_byte(&mut self.bytes, at + 2, b2, lanes.b2);

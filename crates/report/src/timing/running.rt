@@ -30,6 +30,7 @@ fn outcomes_of<P: Predictor, I: Memory, D: Memory>(
 }
 
 /// Runs the machine up to the limit of the set-up, in a few log slots, and reports.
+// The three functions here have one contract, since the third calls one of the others; the set-up stays the caller's.
 fn unlogged<P: Predictor, I: Memory, D: Memory, W: Watch>(
     heap: Global,
     setup: &Setup,

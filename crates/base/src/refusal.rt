@@ -32,6 +32,7 @@ pub enum Refusal {
 
 impl Refusal {
     /// The number that a program prints.
+    // Contracts name a refusal by it too, since it is what a user sees.
     pub fn number(self) -> u32
         ensures { result ≡ number self }
     {

@@ -7,6 +7,7 @@ use rv32i::registers::Registers;
 use sequential::record::{Retirement, Stop};
 
 /// The registers, the latches and the counts, with the predictor and the two memories.
+// The predictor and the memories are chosen apart, so they are three parameters wherever a core goes.
 #[derive(Drop)]
 pub struct Core<P: Predictor, I: Memory, D: Memory> {
     pub registers: Registers,

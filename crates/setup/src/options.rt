@@ -67,6 +67,7 @@ struct Reading {
     /// The option whose value is the next word.
     pending: Option<Key>,
     /// Which word gave the number of clocks.
+    // 0 for none: then no number of clocks is wrong
     clocks_word: usize,
 }
 

@@ -100,6 +100,7 @@ fn with_operands(f: Fetched, instruction: Instruction, a: Option<u32>, b: Option
 }
 
 /// D is dropped after a rollback and stays while X stays; else it goes to X, unless an operand is not there.
+// The cases are those of execute and data, with what this stage gives: the rule is read stage by stage.
 pub fn decode_stage(
     in_flight: InFlight<'_>,
     x: &Latch<Decoded>,

@@ -57,6 +57,7 @@ impl<M: Memory> Model for WaitStates<M> {
 
 impl<M: Memory> WaitStates<M> {
     /// Refuses more than 15 wait states, and a longest wait, with that of the memory below, above 4095.
+    // Each memory and the machine have a check of what they alone know.
     pub fn check(below: &M, states: u32) -> Result<(), Refusal>
         ensures { Checked (wait_fits states (M.Memory.means.view.longest below.now)) 2 result }
     {

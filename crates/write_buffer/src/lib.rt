@@ -39,6 +39,7 @@ impl<M: Memory> Model for WriteBuffer<M> {
 
 impl<M: Memory> WriteBuffer<M> {
     /// Refuses a longest wait above 4095: five times that of the memory below, and four.
+    // Each memory and the machine have a check of what they alone know.
     pub fn check(below: &M) -> Result<(), Refusal>
         ensures { Checked (buffer_fits (M.Memory.means.view.longest below.now)) 2 result }
     {

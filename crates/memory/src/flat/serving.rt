@@ -11,6 +11,7 @@ use base::refusal::Refusal;
 
 impl Flat {
     /// Refuses a number of bytes that is no multiple of 16 from 16 to 65536.
+    // Each memory and the machine have a check of what they alone know.
     pub fn check(len: usize) -> Result<(), Refusal>
         ensures { Checked (flat_fits len) 1 result }
     {

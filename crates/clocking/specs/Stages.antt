@@ -89,6 +89,11 @@ abbrev pub checked : ℕ → ℕ → Result Executed Cause → ExecuteOut
 checked a guess (Err c) = record { m = Faulting (record { address = a; cause = c }); flow = Moves; redirect = None }
 checked a guess (Ok e) = turned e (e.next == guess)
 
+-- what becomes of a latch before which nothing moves: it stays, unless it is empty
+abbrev pub held_up : {T : Type 0} → Latch T → Flow
+held_up Empty = Moves
+held_up l = Stays
+
 -- by what the data stage did with M
 abbrev pub execute_stage : Latch Executed → Latch Decoded → Flow → ExecuteOut
 execute_stage m x RollsBack = record { m = Empty; flow = RollsBack; redirect = None }

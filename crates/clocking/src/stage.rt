@@ -10,6 +10,7 @@ pub enum Flow {
 }
 
 /// What the data stage gives.
+// Each stage's gift has the name of its own latch, as the rule has it.
 #[derive(Clone, Copy)]
 pub struct DataOut {
     pub w: Latch<Completed>,

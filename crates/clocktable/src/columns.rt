@@ -11,6 +11,7 @@ use pipeline::machine::Totals;
 use std::fmt;
 
 /// A letter, or nothing.
+// As setup's optional layer, which stands in a crate of its own.
 #[derive(Clone, Copy)]
 struct Letter(Option<char>);
 
@@ -50,7 +51,7 @@ impl fmt::Display for Letters {
 fn noted(notes: Notes) -> bool
     ensures { result ≡ noted notes }
 {
-    notes.fetch_wait || notes.hazard || notes.data_wait || notes.rollback || notes.stop
+    notes != Notes::NONE
 }
 
 /// A letter for each thing that happened in a clock, or `-` for nothing.

@@ -1,11 +1,10 @@
 //! Memories: what any memory is, and the flat one that stands at the bottom of a stack.
 #![tactic(auto)]
 
-ghost use Rattle.std.specs.Prelude.{◌≡◌, ◌<◌, ◌≤◌};
-ghost use Rattle.base.specs.Refusals.{Says};
+ghost use Rattle.std.specs.Prelude.{◌≡◌, ◌≤◌};
 ghost use Rattle.base.specs.Bytes.{within};
 ghost use Rattle.base.specs.declared.bus.Request.TheVariants.{Read, Write};
-ghost use Rattle.memory.specs.Meaning.{Meaning, Lawful, Settled, peeked, place, of_read, of_write};
+ghost use Rattle.memory.specs.Meaning.{Meaning, Lawful, Settled, ByteRead, peeked, place, of_read, of_write};
 ghost use Rattle.memory.specs.Runs.{Repeats};
 
 mod flat;
@@ -112,7 +111,7 @@ pub fn insist<M: Memory>(memory: &mut M, request: Request) -> Repeated
 
 /// The byte at an address; refused where there is none.
 pub fn byte_at<M: Memory>(memory: &M, address: u32) -> Result<u8, Refusal>
-    ensures { Says (λ b. (address < M.Memory.means.view.size memory.now) × (b ≡ M.Memory.means.view.byte memory.now address)) (λ why. (why ≡ 9) × (M.Memory.means.view.size memory.now ≤ address)) result }
+    ensures { ByteRead M.Memory.means.view memory.now address result }
 {
     memory.peek(address).ok_or(Refusal::NotThere)
 }

@@ -1,5 +1,6 @@
 -- The relation of each call between the machine before and after it, by cases on the answer. Assumes nothing.
 use Rattle.std.specs.Prelude.{◌≡◌, ℕ, ◌+◌, ◌%◌, ◌<◌, ◌≤◌, Bool, true, false, cond, ◌&&◌, ◌⊎◌, List, [], ◌∷◌, ◌++◌, length, replicate, is_some, Some, None, Ok, Err, Option, Result, ◌==◌, ◌≢◌, nat_le, nat_lt}
+use Rattle.base.specs.Bytes.{within}
 use Rattle.base.specs.declared.refusal.Refusal.{Refusal}
 use Rattle.base.specs.declared.refusal.Refusal.TheVariants.{FlatSize, LongWait, BadStart, Held, Stopped, LogFull, ClocksSpent, WrongToken, NotThere, NoWord}
 use Rattle.memory.specs.Meaning.{Meaning}
@@ -20,7 +21,7 @@ use Rattle.pipeline.specs.declared.token.HoldToken.{HoldToken}
 
 -- a start that is a multiple of 4 inside an instruction memory of that size, and a serial of 16 bits
 abbrev pub start_fits : ℕ → ℕ → Bool
-start_fits size start = start % 4 == 0 && nat_lt start size
+start_fits size start = within size start
 
 abbrev pub load_fits : ℕ → ℕ → ℕ → Bool
 load_fits serial size start = nat_le serial 65535 && start_fits size start

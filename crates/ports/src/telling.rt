@@ -38,11 +38,8 @@ pub fn clock_record(clock: u32, latches: &Latches, notes: Notes) -> ClockRecord
 
 /// The notes of a clock that stops the machine.
 pub const STOP: Notes = Notes {
-    fetch_wait: false,
-    hazard: false,
-    data_wait: false,
-    rollback: false,
     stop: true,
+    ..Notes::NONE
 };
 
 /// The notes of a clock that moves on, by what became of M, X and D and the instruction memory's answer. A hazard keeps D

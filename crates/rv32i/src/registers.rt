@@ -1,7 +1,7 @@
 //! The register file.
 ghost use Rattle.std.specs.Prelude.{◌≡◌, ◌<◌, ◌≤◌, replicate, slice_index};
 ghost use Rattle.base.specs.Refusals.{Says};
-ghost use Rattle.rv32i.specs.Registers.{register, nonzero, operand, written};
+ghost use Rattle.rv32i.specs.Registers.{register, nonzero, operand, written, RegisterRead};
 
 use crate::register::Register;
 use base::refusal::Refusal;
@@ -72,7 +72,7 @@ impl Registers {
 
     /// The value of the register of that number; refused above 31.
     pub fn get(&self, number: u32) -> Result<u32, Refusal>
-        ensures { Says (λ v. (number < 32) × (v ≡ slice_index self.now.values number)) (λ why. (why ≡ 9) × (32 ≤ number)) result }
+        ensures { RegisterRead self.now number result }
     {
         let register = Register::new(number)?;
         Ok(self.read(Some(register)))

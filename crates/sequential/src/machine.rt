@@ -1,7 +1,7 @@
 //! The machine that runs.
 ghost use Rattle.std.specs.Prelude.{◌≡◌, ◌%◌, ◌<◌, ◌≤◌, replicate, None, slice_index};
-ghost use Rattle.base.specs.Refusals.{Says};
-ghost use Rattle.memory.specs.Meaning.{Same};
+ghost use Rattle.memory.specs.Meaning.{Same, ByteRead};
+ghost use Rattle.rv32i.specs.Registers.{RegisterRead};
 ghost use Rattle.rv32i.specs.Effects.{request};
 ghost use Rattle.sequential.specs.Sequential.{fetch, step};
 ghost use Rattle.sequential.specs.Stepping.{fetched, completed, world_of, state_of, Transferred, Advances, Stepped};
@@ -148,14 +148,14 @@ impl<I: Memory, D: Memory> Machine<I, D> {
 
     /// The value of a register; refused above 31.
     pub fn register(&self, number: u32) -> Result<u32, Refusal>
-        ensures { Says (λ v. (number < 32) × (v ≡ slice_index self.now.registers.values number)) (λ why. (why ≡ 9) × (32 ≤ number)) result }
+        ensures { RegisterRead self.now.registers number result }
     {
         self.registers.get(number)
     }
 
     /// The data byte at an address; refused outside.
     pub fn byte(&self, address: u32) -> Result<u8, Refusal>
-        ensures { Says (λ b. (address < D.Memory.means.view.size self.now.«data») × (b ≡ D.Memory.means.view.byte self.now.«data» address)) (λ why. (why ≡ 9) × (D.Memory.means.view.size self.now.«data» ≤ address)) result }
+        ensures { ByteRead D.Memory.means.view self.now.«data» address result }
     {
         byte_at(&self.data, address)
     }

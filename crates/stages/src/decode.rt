@@ -1,7 +1,9 @@
 //! The decode stage: D goes to X, with its operands.
 ghost use Rattle.std.specs.Prelude.{◌≡◌};
-ghost use Rattle.clocking.specs.Stages.{early, arrived, values_in_flight, source, with_operands, decode_stage};
+ghost use Rattle.clocking.specs.Stages.{early, arrived, source, with_operands, decode_stage};
+ghost use Rattle.stages.specs.Flight.{values};
 
+use crate::execute::held_up;
 use clocking::latch::{Completed, Decoded, Executed, Fetched, Latch};
 use clocking::stage::{DecodeOut, Flow};
 use rv32i::effect::Access;
@@ -44,7 +46,7 @@ pub struct InFlight<'a> {
 impl InFlight<'_> {
     /// What a register is. The youngest that writes it gives it: X, then M, then W, else the register file.
     fn forwarded(self, r: Register) -> Option<u32>
-        ensures { result ≡ values_in_flight self.entry.x.now self.entry.m.now self.entry.answer.now self.entry.w.now self.entry.registers.now r }
+        ensures { result ≡ values self.entry r }
     {
         if let Latch::Full(e) = *self.x
             && e.rd == Some(r)
@@ -65,9 +67,9 @@ impl InFlight<'_> {
 
     /// What there is to read: where no register is read, 0.
     fn source(self, register: Option<Register>) -> Option<u32>
-        ensures { result ≡ source (values_in_flight self.entry.x.now self.entry.m.now self.entry.answer.now self.entry.w.now self.entry.registers.now) register }
+        ensures { result ≡ source (values self.entry) register }
     {
-        // By map_or the check does not find the proof.
+        // tried: by map_or the check does not find the proof
         match register {
             Some(r) => self.forwarded(r),
             None => Some(0),
@@ -107,7 +109,7 @@ pub fn decode_stage(
     d: &Latch<Fetched>,
     flow: Flow,
 ) -> DecodeOut
-    ensures { result ≡ decode_stage (values_in_flight in_flight.entry.x.now in_flight.entry.m.now in_flight.entry.answer.now in_flight.entry.w.now in_flight.entry.registers.now) x.now d.now flow }
+    ensures { result ≡ decode_stage (values in_flight.entry) x.now d.now flow }
 {
     match flow {
         Flow::RollsBack => DecodeOut {
@@ -116,10 +118,7 @@ pub fn decode_stage(
         },
         Flow::Stays => DecodeOut {
             x: *x,
-            flow: match *d {
-                Latch::Empty => Flow::Moves,
-                Latch::Faulting(_) | Latch::Full(_) => Flow::Stays,
-            },
+            flow: held_up(d),
         },
         Flow::Moves => match *d {
             Latch::Empty => DecodeOut {

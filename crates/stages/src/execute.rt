@@ -1,6 +1,6 @@
 //! The execute stage: X goes to M, computed.
 ghost use Rattle.std.specs.Prelude.{◌≡◌};
-ghost use Rattle.clocking.specs.Stages.{execute, execute_stage, x_result};
+ghost use Rattle.clocking.specs.Stages.{execute, execute_stage, held_up, x_result};
 
 use clocking::latch::{Decoded, Executed, Latch};
 use clocking::stage::{ExecuteOut, Flow};
@@ -24,6 +24,16 @@ pub fn execute(d: Decoded) -> Result<Executed, Cause>
     })
 }
 
+/// What becomes of a latch before which nothing moves: it stays, unless it is empty.
+pub(crate) fn held_up<T: Copy>(latch: &Latch<T>) -> Flow
+    ensures { result ≡ held_up latch.now }
+{
+    match *latch {
+        Latch::Empty => Flow::Moves,
+        Latch::Faulting(_) | Latch::Full(_) => Flow::Stays,
+    }
+}
+
 /// X is dropped after a rollback and stays while M stays; else it goes to M, and rolls back what was fetched after it where
 /// its true next address is not the guessed one.
 pub fn execute_stage(m: &Latch<Executed>, x: &Latch<Decoded>, flow: Flow) -> ExecuteOut
@@ -37,10 +47,7 @@ pub fn execute_stage(m: &Latch<Executed>, x: &Latch<Decoded>, flow: Flow) -> Exe
         },
         Flow::Stays => ExecuteOut {
             m: *m,
-            flow: match *x {
-                Latch::Empty => Flow::Moves,
-                Latch::Faulting(_) | Latch::Full(_) => Flow::Stays,
-            },
+            flow: held_up(x),
             redirect: None,
         },
         Flow::Moves => match *x {

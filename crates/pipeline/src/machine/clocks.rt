@@ -38,13 +38,8 @@ impl<P: Predictor, I: Memory, D: Memory> Machine<P, I, D> {
         ensures slots { SameSlots journal.old journal.new }
     {
         self.ready(journal)?;
-        match checked_cycle(&mut self.core) {
-            Some(event) => {
-                journal.record(event);
-                Ok(())
-            }
-            None => unreachable(),
-        }
+        journal.record(checked_cycle(&mut self.core).unwrap());
+        Ok(())
     }
 
     /// Up to `n` clocks in a row, of which nothing refuses the first.

@@ -1,7 +1,7 @@
 //! How a machine comes to be.
-ghost use Rattle.std.specs.Prelude.{◌≡◌, true, false};
-ghost use Rattle.base.specs.Refusals.{Says};
-ghost use Rattle.pipeline.specs.Calls.{Loaded, load_fits, start_fits};
+ghost use Rattle.std.specs.Prelude.{◌≡◌};
+ghost use Rattle.memory.specs.Meaning.{Checked};
+ghost use Rattle.pipeline.specs.Calls.{Loaded, load_fits};
 ghost use Rattle.pipeline.specs.Theorem.{Agrees};
 
 use crate::machine::Machine;
@@ -9,24 +9,17 @@ use base::refusal::Refusal;
 use clocking::counts::Counts;
 use clocking::latch::{Latch, Latches};
 use clocking::state::Core;
-use memory::Memory;
+use memory::{Memory, is_within};
 use predictor::Predictor;
 use rv32i::registers::Registers;
-
-/// Whether a machine can start at an address, with an instruction memory of that size.
-fn start_fits(size: u32, start: u32) -> bool
-    ensures { result ≡ start_fits size start }
-{
-    start % 4 == 0 && start < size
-}
 
 /// Whether a machine can be loaded so; refused where the serial is above 65535, or the start no multiple of 4 or outside the
 /// instruction memory.
 // Each memory and the machine have a check of what they alone know.
 pub fn check<I: Memory>(serial: u32, start: u32, instructions: &I) -> Result<(), Refusal>
-    ensures { Says (λ _. load_fits serial (I.Memory.means.view.size instructions.now) start ≡ true) (λ why. (why ≡ 3) × (load_fits serial (I.Memory.means.view.size instructions.now) start ≡ false)) result }
+    ensures { Checked (load_fits serial (I.Memory.means.view.size instructions.now) start) 3 result }
 {
-    if serial <= 65535 && start_fits(instructions.size(), start) {
+    if serial <= 65535 && is_within(instructions.size(), start) {
         Ok(())
     } else {
         Err(Refusal::BadStart)
@@ -45,7 +38,7 @@ pub fn load<P: Predictor, I: Memory, D: Memory>(
     ensures starts { Loaded (I.Memory.means.view.size instructions) serial start predictor instructions «data» result }
     ensures agrees { Agrees P.Predictor.table I.Memory.means D.Memory.means result }
 {
-    let f = if start_fits(instructions.size(), start) {
+    let f = if is_within(instructions.size(), start) {
         start
     } else {
         0

@@ -1,6 +1,7 @@
 //! What can be read of a machine, also while it is held and after it has stopped.
 ghost use Rattle.std.specs.Prelude.{◌≡◌, ◌<◌, ◌≤◌, slice_index};
-ghost use Rattle.base.specs.Refusals.{Says};
+ghost use Rattle.memory.specs.Meaning.{ByteRead};
+ghost use Rattle.rv32i.specs.Registers.{RegisterRead};
 ghost use Rattle.pipeline.specs.Readings.{totals};
 
 use crate::machine::{Machine, Totals};
@@ -28,14 +29,14 @@ impl<P: Predictor, I: Memory, D: Memory> Machine<P, I, D> {
 
     /// The value of a register; refused above 31.
     pub fn register(&self, number: u32) -> Result<u32, Refusal>
-        ensures { Says (λ v. (number < 32) × (v ≡ slice_index self.now.core.registers.values number)) (λ why. (why ≡ 9) × (32 ≤ number)) result }
+        ensures { RegisterRead self.now.core.registers number result }
     {
         self.core.registers.get(number)
     }
 
     /// The data byte at an address; refused outside.
     pub fn byte(&self, address: u32) -> Result<u8, Refusal>
-        ensures { Says (λ b. (address < D.Memory.means.view.size self.now.core.«data») × (b ≡ D.Memory.means.view.byte self.now.core.«data» address)) (λ why. (why ≡ 9) × (D.Memory.means.view.size self.now.core.«data» ≤ address)) result }
+        ensures { ByteRead D.Memory.means.view self.now.core.«data» address result }
     {
         byte_at(&self.core.data, address)
     }

@@ -2,8 +2,9 @@ use Rattle.std.proofs.Common.{[], ◌∷◌, refl}
 use Rattle.pipeline.proofs.machine.Machine.clock.Goals as goal
 
 pub returns-clause-does : goal.returns-clause-does
-returns-clause-does g c = (
-  c.in-Some.event ∷ [],
-  (c.in_ok-ready.ensures, (c.in-Some.event, refl, record { same_serial = refl; same_held = refl; cycled = c.in-Some.ensures.2 })),
-  c.record.ensures.adds,
-)
+returns-clause-does g c =
+    let cycles = rw c.unwrap.ensures at c.checked_cycle.ensures in (
+      c.unwrap.result ∷ [],
+      (c.in_ok-ready.ensures, (c.unwrap.result, refl, record { same_serial = refl; same_held = refl; cycled = cycles.2 })),
+      c.record.ensures.adds,
+    )

@@ -16,4 +16,4 @@ padded_size n = max ((n + 15) / 16 * 16) 16
 abbrev pub Padded : List ℕ → Result PaddedImage Failure → Type 0
 Padded image (Ok p) = (length image ≤ 65536) × (vec_items p.bytes ≡ image ++ replicate (padded_size (length image) - length image) 0)
 Padded image (Err (Refused why)) = (number why ≡ 1) × (65536 < length image)
-Padded image (Err OutOfMemory) = Unit {0}
+Padded image (Err (OutOfMemory error)) = Unit {0}

@@ -31,4 +31,4 @@ pub record Printed (image text : List ℕ) : Type 0 where
 abbrev pub Answered : List ℕ → Result (String Global) Failure → Type 0
 Answered input (Ok text) = (length input ≤ 65536) × Printed (input ++ replicate (padded_size (length input) - length input) 0) (string_bytes text)
 Answered input (Err (Refused why)) = (number why ≡ 1) × (65536 < length input)
-Answered input (Err OutOfMemory) = Unit {0}
+Answered input (Err (OutOfMemory error)) = Unit {0}

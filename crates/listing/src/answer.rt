@@ -12,6 +12,6 @@ pub fn printed(heap: Global, answer: Result<String, Failure>) -> Result<String, 
     match answer {
         Ok(text) => Ok(text),
         Err(Failure::Refused(why)) => format!(in heap; "{why}\n"),
-        Err(Failure::OutOfMemory) => Err(AllocError),
+        Err(Failure::OutOfMemory(error)) => Err(error),
     }
 }

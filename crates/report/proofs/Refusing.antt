@@ -21,7 +21,7 @@ data_answer s v (Ok m) f n z b =
     (f, (and_parts (flat_fits (vec_len v)) (layers_fit s.«data») b.fits).1, record { vector = v; holds = z; built = b })
 data_answer s v (Err (Refused why)) f n z h =
     (h.0 ∙ ap (λ (k : ℕ). cond (flat_fits k) 2 1) n, sym (ap (λ (k : ℕ). flat_fits k && layers_fit s.«data») n) ∙ h.1)
-data_answer s v (Err OutOfMemory) f n z h = tt
+data_answer s v (Err (OutOfMemory error)) f n z h = tt
 
 -- the first of two tests that fails
 first_failing : (f l : Bool) (x : Option ℕ) (n : ℕ) → n ≡ cond f 2 1 → (f && l) ≡ false → cond f (cond l x (Some 2)) (Some 1) ≡ Some n
@@ -34,7 +34,7 @@ pub data_refused : (s : Setup) (image : List ℕ) (e : Failure) → layers_fit s
 data_refused s image (Refused why) i h =
     ap (λ (b : Bool). cond b (cond (flat_fits s.data_size) (cond (layers_fit s.«data») (cond (load_fits 0 (length image) s.start) None (Some 3)) (Some 2)) (Some 1)) (Some 2)) i
     ∙ first_failing (flat_fits s.data_size) (layers_fit s.«data») (cond (load_fits 0 (length image) s.start) None (Some 3)) (number why) h.0 h.1
-data_refused s image OutOfMemory i h = tt
+data_refused s image (OutOfMemory error) i h = tt
 
 -- the same of what it is converted to
 pub data_refused_by : (s : Setup) (image : List ℕ) (e : Failure) (r : Result (Assembly Guesser Stack Stack) Failure) → is_err r ≡ true → IsErrAnd r (λ x. x ≡ e) → layers_fit s.instructions ≡ true → DataAnswer s (Err e)

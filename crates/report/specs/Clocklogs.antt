@@ -39,4 +39,4 @@ pub record ClockPrinted (image text : List ℕ) : Type 0 where
 abbrev pub ClocklogAnswer : List ℕ → Result (String Global) Failure → Type 0
 ClocklogAnswer input (Ok text) = (length input ≤ 65536) × ClockPrinted (input ++ replicate (padded_size (length input) - length input) 0) (string_bytes text)
 ClocklogAnswer input (Err (Refused why)) = (number why ≡ 1) × (65536 < length input)
-ClocklogAnswer input (Err OutOfMemory) = Unit {0}
+ClocklogAnswer input (Err (OutOfMemory error)) = Unit {0}

@@ -104,18 +104,18 @@ refusal_of s size =
 abbrev pub StackAnswer : Vec ℕ Global → StackChoice → Result Stack Failure → Type 0
 StackAnswer bytes choice (Ok s) = Built bytes choice (inside s)
 StackAnswer bytes choice (Err (Refused why)) = (number why ≡ cond (flat_fits (vec_len bytes)) 2 1) × (stack_fits bytes choice ≡ false)
-StackAnswer bytes choice (Err OutOfMemory) = Unit {0}
+StackAnswer bytes choice (Err (OutOfMemory error)) = Unit {0}
 
 -- the data memory, or the first of its two refusals
 abbrev pub DataAnswer : Setup → Result Stack Failure → Type 0
 DataAnswer s (Ok m) = (flat_fits s.data_size ≡ true) × (layers_fit s.«data» ≡ true) × Stacked s.«data» (replicate s.data_size 0) m
 DataAnswer s (Err (Refused why)) = (number why ≡ cond (flat_fits s.data_size) 2 1) × (flat_fits s.data_size && layers_fit s.«data» ≡ false)
-DataAnswer s (Err OutOfMemory) = Unit {0}
+DataAnswer s (Err (OutOfMemory error)) = Unit {0}
 
 abbrev pub AssemblyAnswer : Setup → List ℕ → Result (Assembly Guesser Stack Stack) Failure → Type 0
 AssemblyAnswer s image (Ok a) = (refusal_of s (length image) ≡ None) × Assembled s image a.machine × (a.longest ≡ longest_of s)
 AssemblyAnswer s image (Err (Refused why)) = refusal_of s (length image) ≡ Some (number why)
-AssemblyAnswer s image (Err OutOfMemory) = Unit {0}
+AssemblyAnswer s image (Err (OutOfMemory error)) = Unit {0}
 
 -- ---- all of it
 
@@ -138,4 +138,4 @@ refused_by s input why = ((why ≡ 1) × (65536 < length input)) ⊎ ((length in
 abbrev pub TimingAnswer : Setup → List ℕ → Result (String Global) Failure → Type 0
 TimingAnswer s input (Ok text) = (length input ≤ 65536) × Timed s (padded_image input) (string_bytes text)
 TimingAnswer s input (Err (Refused why)) = refused_by s input (number why)
-TimingAnswer s input (Err OutOfMemory) = Unit {0}
+TimingAnswer s input (Err (OutOfMemory error)) = Unit {0}

@@ -7,6 +7,7 @@ use crate::counter::Counter;
 /// 256 counters, numbered from 0.
 #[derive(Drop)]
 pub struct Counters {
+    // Numbers, since the tables in the contracts are of numbers.
     values: [u8; 256],
     ghost range: { (k : ℕ) → slice_index values k ≤ 3 },
 }
@@ -31,7 +32,7 @@ impl Counters {
         ensures { result.value ≡ value_at self.now.values number }
     {
         Counter {
-            value: self.values[number as usize],
+            value: self.values[usize::from(number)],
         }
     }
 
@@ -39,6 +40,6 @@ impl Counters {
     pub fn count(&mut self, number: u8, up: bool)
         ensures { self.new.values ≡ counted self.old.values number up }
     {
-        self.values[number as usize] = self.get(number).stepped(up).value;
+        self.values[usize::from(number)] = self.get(number).stepped(up).value;
     }
 }

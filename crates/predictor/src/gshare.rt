@@ -53,7 +53,7 @@ impl Gshare {
 impl Predictor for Gshare {
     ghost table = { λ g. gshare g.counters.values g.history.bits };
 
-    // as bimodal does, by another counter
+    // one line, as bimodal's, by another counter
     fn guess(&self, address: u32, _target: u32) -> bool {
         self.counter(address).is_high()
     }

@@ -119,8 +119,8 @@ pub fn arithmetic(op: RegisterOp, a: u32, b: u32) -> u32
         RegisterOp::Add => a.wrapping_add(b),
         RegisterOp::Sub => a.wrapping_sub(b),
         RegisterOp::Sll => a.wrapping_shl(b),
-        RegisterOp::Slt => (a.cast_signed() < b.cast_signed()) as u32,
-        RegisterOp::Sltu => (a < b) as u32,
+        RegisterOp::Slt => u32::from(a.cast_signed() < b.cast_signed()),
+        RegisterOp::Sltu => u32::from(a < b),
         RegisterOp::Xor => a ^ b,
         RegisterOp::Srl => a.wrapping_shr(b),
         RegisterOp::Sra => a.cast_signed().wrapping_shr(b).cast_unsigned(),
@@ -260,7 +260,7 @@ impl Instruction {
             )),
             Instruction::Shift { op, amount, .. } => Ok(goes_on(
                 address,
-                arithmetic(op.into(), a, amount as u32),
+                arithmetic(op.into(), a, u32::from(amount)),
             )),
             Instruction::Register { op, .. } => Ok(goes_on(address, arithmetic(op, a, b))),
             Instruction::Fence | Instruction::Ecall | Instruction::Ebreak => Ok(goes_on(
@@ -325,7 +325,7 @@ impl Access {
     }
 
     /// The cause where its address is outside the data memory.
-    // The other of the two.
+    // As `misaligned`, the other of an access's two causes.
     fn outside(self) -> Cause
         ensures { result ≡ outside self }
     {
@@ -338,6 +338,7 @@ impl Access {
 
 /// What an instruction asks of a data memory of that size, or why it may not; `address` is the result of its execution
 /// and `b` its second operand.
+// What goes from one stage to the next, of which each function takes a part.
 #[tactic(auto, unfolding(crate::specs::Effects::request))]
 pub fn request(
     size: u32,
@@ -382,6 +383,7 @@ fn extract(kind: LoadKind, bytes: u32) -> u32
 }
 
 /// What a load makes of the word that it is answered; all else keeps its result.
+// What goes from one stage to the next, of which each function takes a part.
 #[tactic(auto, unfolding(crate::specs::Effects::loaded))]
 pub fn loaded(access: Option<Access>, res: u32, word: u32) -> u32
     ensures { result ≡ loaded access res word }

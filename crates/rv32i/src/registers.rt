@@ -8,6 +8,7 @@ use base::refusal::Refusal;
 
 impl Register {
     /// The register of that number; refused above 31.
+    // A constructor that may refuse: a TryFrom would only hide its name.
     pub fn new(number: u32) -> Result<Register, Refusal>
         ensures { Says (λ x. (number < 32) × (x.number ≡ number)) (λ why. (why ≡ 9) × (32 ≤ number)) result }
     {
@@ -63,11 +64,7 @@ impl Registers {
     pub fn read(&self, source: Option<Register>) -> u32
         ensures { result ≡ operand self.now source }
     {
-        // a match, and no `map_or`: what is read stands beside what is written
-        match source {
-            Some(r) => self.values[r.number as usize],
-            None => 0,
-        }
+        source.map_or(0, |r| self.values[usize::from(r.number)])
     }
 
     /// The value of the register of that number; refused above 31.
@@ -83,7 +80,7 @@ impl Registers {
         ensures { self.new ≡ written self.old destination value }
     {
         if let Some(r) = destination {
-            self.values[r.number as usize] = value;
+            self.values[usize::from(r.number)] = value;
         }
     }
 }

@@ -10,7 +10,8 @@ use rv32i::instruction::{
 };
 use rv32i::register::Register;
 
-/// The opcodes of the formats that have a register or an immediate.
+// The opcodes of the formats that have a register or an immediate.
+
 const LUI: Field<7> = Field { value: 0x37 };
 
 const AUIPC: Field<7> = Field { value: 0x17 };
@@ -31,6 +32,7 @@ const REGISTER: Field<7> = Field { value: 0x33 };
 
 const JALR_FUNCT3: Field<3> = Field { value: 0 };
 
+// Codes belong to words, so they are no discriminants of the instructions.
 impl From<Condition> for Field<3> {
     ghost from_gives = { λ condition x. x.value ≡ condition_code condition };
 
@@ -48,6 +50,7 @@ impl From<Condition> for Field<3> {
     }
 }
 
+// Codes belong to words, so they are no discriminants of the instructions.
 impl From<LoadKind> for Field<3> {
     ghost from_gives = { λ kind x. x.value ≡ load_code kind };
 
@@ -64,6 +67,7 @@ impl From<LoadKind> for Field<3> {
     }
 }
 
+// Codes belong to words, so they are no discriminants of the instructions.
 impl From<StoreKind> for Field<3> {
     ghost from_gives = { λ kind x. x.value ≡ store_code kind };
 
@@ -78,6 +82,7 @@ impl From<StoreKind> for Field<3> {
     }
 }
 
+// Codes belong to words, so they are no discriminants of the instructions.
 impl From<ImmediateOp> for Field<3> {
     ghost from_gives = { λ op x. x.value ≡ immediate_code op };
 
@@ -177,6 +182,7 @@ fn word_j(opcode: Field<7>, rd: Register, offset: i32) -> Result<u32, Refusal>
 }
 
 /// A word of the I format.
+// The format's own fields, as at word_u: a struct of them would be built to be taken apart.
 fn word_i(
     opcode: Field<7>,
     funct3: Field<3>,
@@ -199,6 +205,7 @@ fn word_i(
 }
 
 /// A word of the S format.
+// The format's own fields, as at word_u: a struct of them would be built to be taken apart.
 fn word_s(
     opcode: Field<7>,
     funct3: Field<3>,
@@ -221,6 +228,7 @@ fn word_s(
 }
 
 /// A word of the B format.
+// The format's own fields, as at word_u: a struct of them would be built to be taken apart.
 fn word_b(
     opcode: Field<7>,
     funct3: Field<3>,

@@ -104,7 +104,7 @@ impl From<Register> for Field<5> {
 
     fn from(register: Register) -> Field<5> {
         Field {
-            value: register.number() as u32,
+            value: u32::from(register.number()),
         }
     }
 }

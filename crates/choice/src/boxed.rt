@@ -8,6 +8,7 @@ use memory::{Memory, Unserved};
 use std::alloc::{AllocFailed, Global};
 
 /// A memory on the heap: a chosen stack has too many fields for two of them to stand in one machine.
+// A type of its own: an impl for Box in `memory` would put the heap under every memory.
 #[derive(Drop)]
 pub struct Boxed<M: Memory> {
     memory: Box<M>,

@@ -12,7 +12,7 @@ use predictor::tournament::Tournament;
 use setup::choice::{PredictorChoice, SimpleChoice};
 
 /// A predictor that stands alone. The kinds are parameters, so that a method is proved from what any predictor promises; a run has those that stand as defaults.
-// An enum, and no `dyn Predictor`: a function may not make a `dyn` and hand it out.
+// An enum, and no `dyn Predictor`: a function may not make a `dyn` and hand it out; memories and predictors are not compared.
 #[derive(Drop)]
 pub enum Simple<N = Never, W = Backward, C = Bimodal, G = Gshare> {
     Never(N),

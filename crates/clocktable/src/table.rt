@@ -4,7 +4,7 @@ ghost use Rattle.clocktable.specs.Tables.{retired_line, clock_line, end_line, tw
 
 use crate::columns::{ClockText, CountsText};
 use clocking::state::ClockRecord;
-use listing::records::{RecordText, StopText};
+use listing::records::{EndText, RecordText};
 use listing::table::{Columns, write_table};
 use pipeline::machine::{RetiredAt, Totals};
 use sequential::record::Stop;
@@ -46,10 +46,7 @@ impl Columns for ClockColumns {
 fn write_end(text: &mut String, stop: Option<Stop>, counts: Totals) -> Result<(), AllocError>
     ensures { OnOk result (string_bytes text.new ≡ string_bytes text.old ++ end_line stop counts) }
 {
-    match stop {
-        Some(stop) => writeln!(text, "stop {} {}", StopText(stop), CountsText(counts)),
-        None => writeln!(text, "limit {}", CountsText(counts)),
-    }
+    writeln!(text, "{} {}", EndText(stop), CountsText(counts))
 }
 
 /// The two tables of a clocked run: what retired, and the clocks.

@@ -1,5 +1,5 @@
 -- The text of records and stops. Assumes nothing.
-use Rattle.std.specs.Prelude.{ℕ, List, [], ◌∷◌, ◌++◌, Some, None, decimal, Option}
+use Rattle.std.specs.Prelude.{ℕ, List, [], ◌∷◌, ◌++◌, Some, None, codes, decimal, Option}
 use Rattle.rv32i.specs.Causes.{cause_number}
 use Rattle.rv32i.specs.declared.register.Register.{Register}
 use Rattle.sequential.specs.declared.record.Retired.{Retired}
@@ -25,3 +25,8 @@ record_text r = spaced (hex places r.address) (spaced (hex places r.word) (space
 
 abbrev pub stop_text : Stop → List ℕ
 stop_text s = spaced (decimal (cause_number s.cause)) (hex places s.address)
+
+-- how a run ended: the stop, or that the limit was met
+abbrev pub ending : Option Stop → List ℕ
+ending (Some stop) = codes "stop " ++ stop_text stop
+ending None = codes "limit"

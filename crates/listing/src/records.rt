@@ -1,6 +1,6 @@
 //! Records and stops as text.
 ghost use Rattle.std.specs.Prelude.{Some};
-ghost use Rattle.listing.specs.Texts.{record_text, stop_text};
+ghost use Rattle.listing.specs.Texts.{record_text, stop_text, ending};
 
 use crate::hex::Hex;
 use crate::or_dash::OrDash;
@@ -42,5 +42,20 @@ impl fmt::Display for StopText {
 
     fn fmt<W: fmt::Write>(&self, f: &mut fmt::Formatter<W>) -> fmt::Result {
         write!(f, "{} {}", self.0.cause.number(), Hex(self.0.address))
+    }
+}
+
+/// How a run ended: the stop, or that the limit was met.
+#[derive(Clone, Copy)]
+pub struct EndText(pub Option<Stop>);
+
+impl fmt::Display for EndText {
+    ghost output = { λ x. Some (ending x.0) };
+
+    fn fmt<W: fmt::Write>(&self, f: &mut fmt::Formatter<W>) -> fmt::Result {
+        match self.0 {
+            Some(stop) => write!(f, "stop {}", StopText(stop)),
+            None => f.write_str("limit"),
+        }
     }
 }

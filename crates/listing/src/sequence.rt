@@ -2,7 +2,7 @@
 ghost use Rattle.std.specs.Prelude.{◌≡◌, ◌++◌, OnOk, IfOk, string_bytes};
 ghost use Rattle.listing.specs.Sequences.{retired_line, end_line, sequence_text};
 
-use crate::records::{RecordText, StopText};
+use crate::records::{EndText, RecordText};
 use crate::table::{Columns, write_table};
 use sequential::record::{Retired, Stop};
 use std::alloc::{AllocError, Global};
@@ -25,10 +25,7 @@ impl Columns for RetiredColumns {
 fn write_end(text: &mut String, number: usize, stop: Option<Stop>) -> Result<(), AllocError>
     ensures { OnOk result (string_bytes text.new ≡ string_bytes text.old ++ end_line number stop) }
 {
-    match stop {
-        Some(stop) => writeln!(text, "stop {} retired {number}", StopText(stop)),
-        None => writeln!(text, "limit retired {number}"),
-    }
+    writeln!(text, "{} retired {number}", EndText(stop))
 }
 
 /// What a sequential run prints of the instructions that it retired and of its end.

@@ -10,6 +10,7 @@ pub struct Gaps {
     /// The clock of the latest retirement; 0 before the first.
     latest: u32,
     /// The longest gap that is finished; 0 with none.
+    // 0 for none, as it is printed
     longest: u32,
 }
 

@@ -1,6 +1,6 @@
 //! The account of a run: what retired, how it ended, and what the registers and the memory hold then.
 use listing::hex::Hex;
-use listing::records::{RecordText, StopText};
+use listing::records::{EndText, RecordText};
 use sequential::record::{Retired, Stop};
 use std::alloc::{AllocError, Global};
 use std::fmt::Write;
@@ -46,30 +46,23 @@ impl Account {
             .word(retired.value);
         let number = self.retired;
         if number <= SHOWN {
-            let record = RecordText(retired);
-            writeln!(self.text, "{number} {record}")?;
+            writeln!(self.text, "{number} {}", RecordText(retired))?;
         }
         if number % PART == 0 {
-            let digest = self.digest.0;
-            writeln!(self.text, "digest {number} {digest:016x}")?;
+            writeln!(self.text, "digest {number} {:016x}", self.digest.0)?;
         }
         Ok(())
     }
 
     /// Adds how the run ended.
     pub fn end(&mut self, stop: Option<Stop>) -> Result<(), AllocError> {
-        let retired = self.retired;
-        let digest = self.digest.0;
-        match stop {
-            Some(stop) => {
-                let stop = StopText(stop);
-                writeln!(
-                    self.text,
-                    "stop {stop} retired {retired} digest {digest:016x}"
-                )
-            }
-            None => writeln!(self.text, "limit retired {retired} digest {digest:016x}"),
-        }
+        writeln!(
+            self.text,
+            "{} retired {} digest {:016x}",
+            EndText(stop),
+            self.retired,
+            self.digest.0
+        )
     }
 
     /// Adds the value of a register; there are eight to a line.
@@ -77,9 +70,8 @@ impl Account {
         if number % 8 == 0 {
             write!(self.text, "x{number}")?;
         }
-        let value = Hex(value);
         let end = if number % 8 == 7 { "\n" } else { "" };
-        write!(self.text, " {value}{end}")
+        write!(self.text, " {}{end}", Hex(value))
     }
 
     /// Adds a word of the memory that is not what it was at first, if not too many were told.
@@ -88,9 +80,7 @@ impl Account {
         if self.changed > CHANGED {
             return Ok(());
         }
-        let address = Hex(address);
-        let word = Hex(word);
-        writeln!(self.text, "{address} {word}")
+        writeln!(self.text, "{} {}", Hex(address), Hex(word))
     }
 
     /// Adds the digest of the memory, and how many of its words changed.

@@ -54,10 +54,9 @@ fn note_difference(
 /// What the machines make of an image: the account of the sequential machine, and those of the pipelines that differ from it.
 // No Display: this is no print of an image, but what comes of running it.
 pub fn replay(heap: Global, image: &Image) -> Result<String, AllocError> {
-    let name = image.name.as_str();
-    let mut text = format!(in heap; "image {name}\n")?;
+    let mut text = format!(in heap; "image {}\n", image.name)?;
     let expected = sequential(heap, image)?;
-    text.push_str(expected.as_str())?;
+    text.push_str(expected.as_str())?; // compared before it is pushed
     let account = plain(heap, image)?;
     note_difference(
         &mut text,

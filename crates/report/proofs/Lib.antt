@@ -1,2 +1,3 @@
+pub mod Joined
 pub mod Refusing
 pub mod Running

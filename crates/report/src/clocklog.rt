@@ -17,10 +17,12 @@ use std::alloc::{AllocError, Global};
 const LIMIT: usize = 1000;
 
 /// Clocks an image through the pipeline, from address 0, and prints what retired, the clocks and the counts.
+// As seqlog's in listing, by another machine.
 fn print_of(heap: Global, image: PaddedImage) -> Result<String, AllocError>
     ensures { IfOk result (λ t. ClockPrinted image.bytes.items (string_bytes t)) }
 {
     let mut machine = load(0, 0, Never, image.into_memory(), data_memory(heap)?);
+    // The slots are the caller's own, so they stand beside the journal that borrows them.
     let mut retired_slots = [RetiredAt::EMPTY; LIMIT];
     let mut clock_slots = [ClockRecord::EMPTY; LIMIT];
     let mut journal = Journal::new(&mut retired_slots, &mut clock_slots);

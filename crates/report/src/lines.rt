@@ -1,13 +1,13 @@
 //! The lines of a report.
-ghost use Rattle.std.specs.Prelude.{◌≡◌, ◌+◌, ◌++◌, OnOk, IfOk, string_bytes};
-ghost use Rattle.report.specs.Lines.{setup_lines, bounds_line, totals_line, gap_line, last_line, within, report_text};
+ghost use Rattle.std.specs.Prelude.{◌≡◌, ◌+◌, IfOk, Some, string_bytes};
+ghost use Rattle.report.specs.Lines.{setup_lines, bounds_line, totals_line, gap_line, within, report_text};
 
-use listing::records::StopText;
+use listing::records::EndText;
 use pipeline::machine::Totals;
 use sequential::record::Stop;
 use setup::choice::Setup;
 use std::alloc::{AllocError, Global};
-use std::fmt::Write;
+use std::fmt;
 
 /// The longest waits that the two memories state.
 #[derive(Clone, Copy)]
@@ -34,73 +34,92 @@ pub struct Outcomes {
     pub stop: Option<Stop>,
 }
 
-/// Writes the predictor and the two memories, with the longest waits that they state.
+/// The predictor and the two memories, with the longest waits that they state.
 // The set-up is what was asked for and the waits what its memories state: no type has both.
-fn write_setup(text: &mut String, setup: &Setup, longest: Longest) -> Result<(), AllocError>
-    ensures { OnOk result (string_bytes text.new ≡ string_bytes text.old ++ setup_lines setup.now longest) }
-{
-    write!(
-        text,
-        "predictor {}\ninstructions {} longest {}\ndata {} longest {}\n",
-        setup.predictor, setup.instructions, longest.instructions, setup.data, longest.data
-    )
-}
+#[derive(Clone, Copy)]
+struct SetupLines(Setup, Longest);
 
-/// Writes how many clocks a retirement can be away, at first and after each.
-fn write_bounds(text: &mut String, longest: Longest) -> Result<(), AllocError>
-    ensures { OnOk result (string_bytes text.new ≡ string_bytes text.old ++ bounds_line (within longest 5) (within longest 3)) }
-{
-    writeln!(
-        text,
-        "first retirement within {} clocks, each next within {}",
-        longest.within(5),
-        longest.within(3)
-    )
-}
+impl fmt::Display for SetupLines {
+    ghost output = { λ x. Some (setup_lines x.0 x.1) };
 
-/// Writes how many clocks there were, and what became of the instructions.
-fn write_totals(text: &mut String, counts: Totals) -> Result<(), AllocError>
-    ensures { OnOk result (string_bytes text.new ≡ string_bytes text.old ++ totals_line counts) }
-{
-    writeln!(
-        text,
-        "clocks {} fetched {} retired {} dropped {} in flight {}",
-        counts.clocks, counts.fetched, counts.retired, counts.dropped, counts.in_flight
-    )
-}
-
-/// Writes the longest gap that there was.
-fn write_gap(text: &mut String, gap: u32) -> Result<(), AllocError>
-    ensures { OnOk result (string_bytes text.new ≡ string_bytes text.old ++ gap_line gap) }
-{
-    writeln!(text, "longest gap {gap}")
-}
-
-/// Writes how the run ended.
-fn write_last(text: &mut String, stop: Option<Stop>) -> Result<(), AllocError>
-    ensures { OnOk result (string_bytes text.new ≡ string_bytes text.old ++ last_line stop) }
-{
-    match stop {
-        Some(stop) => writeln!(text, "stop {}", StopText(stop)),
-        None => writeln!(text, "limit"),
+    fn fmt<W: fmt::Write>(&self, f: &mut fmt::Formatter<W>) -> fmt::Result {
+        let SetupLines(setup, longest) = *self;
+        write!(
+            f,
+            "predictor {}\ninstructions {} longest {}\ndata {} longest {}\n",
+            setup.predictor, setup.instructions, longest.instructions, setup.data, longest.data
+        )
     }
 }
 
-/// Writes the report of a run behind a text.
-#[tactic(auto, unfolding(crate::specs::Lines::report_text))]
-pub(crate) fn write_report(
-    text: &mut String,
-    setup: &Setup,
-    longest: Longest,
-    outcomes: Outcomes,
-) -> Result<(), AllocError>
-    ensures { OnOk result (string_bytes text.new ≡ string_bytes text.old ++ report_text setup.now longest outcomes) }
-{
-    write_setup(text, setup, longest)?;
-    write_bounds(text, longest)?;
-    write_totals(text, outcomes.counts)?;
-    write_gap(text, outcomes.gap)?;
-    write_last(text, outcomes.stop)
+/// How many clocks a retirement can be away, at first and after each.
+#[derive(Clone, Copy)]
+struct BoundsLine(Longest);
+
+impl fmt::Display for BoundsLine {
+    ghost output = { λ x. Some (bounds_line (within x.0 5) (within x.0 3)) };
+
+    fn fmt<W: fmt::Write>(&self, f: &mut fmt::Formatter<W>) -> fmt::Result {
+        writeln!(
+            f,
+            "first retirement within {} clocks, each next within {}",
+            self.0.within(5),
+            self.0.within(3)
+        )
+    }
+}
+
+/// How many clocks there were, and what became of the instructions.
+#[derive(Clone, Copy)]
+struct TotalsLine(Totals);
+
+impl fmt::Display for TotalsLine {
+    ghost output = { λ x. Some (totals_line x.0) };
+
+    fn fmt<W: fmt::Write>(&self, f: &mut fmt::Formatter<W>) -> fmt::Result {
+        let counts = self.0;
+        writeln!(
+            f,
+            "clocks {} fetched {} retired {} dropped {} in flight {}",
+            counts.clocks, counts.fetched, counts.retired, counts.dropped, counts.in_flight
+        )
+    }
+}
+
+/// The longest gap that there was.
+#[derive(Clone, Copy)]
+struct GapLine(u32);
+
+impl fmt::Display for GapLine {
+    ghost output = { λ x. Some (gap_line x.0) };
+
+    fn fmt<W: fmt::Write>(&self, f: &mut fmt::Formatter<W>) -> fmt::Result {
+        writeln!(f, "longest gap {}", self.0)
+    }
+}
+
+/// The report of a run: the set-up, the longest waits that its memories state, and what it came to.
+#[derive(Clone, Copy)]
+pub struct ReportText {
+    pub setup: Setup,
+    pub longest: Longest,
+    pub outcomes: Outcomes,
+}
+
+impl fmt::Display for ReportText {
+    ghost output = { λ r. Some (report_text r.setup r.longest r.outcomes) };
+
+    fn fmt<W: fmt::Write>(&self, f: &mut fmt::Formatter<W>) -> fmt::Result {
+        writeln!(
+            f,
+            "{}{}{}{}{}",
+            SetupLines(self.setup, self.longest),
+            BoundsLine(self.longest),
+            TotalsLine(self.outcomes.counts),
+            GapLine(self.outcomes.gap),
+            EndText(self.outcomes.stop)
+        )
+    }
 }
 
 /// The report of a run.
@@ -112,7 +131,13 @@ pub fn report(
 ) -> Result<String, AllocError>
     ensures { IfOk result (λ t. string_bytes t ≡ report_text setup.now longest outcomes) }
 {
-    let mut text = String::new(heap);
-    write_report(&mut text, setup, longest, outcomes)?;
-    Ok(text)
+    let setup = *setup;
+    format!(in heap;
+        "{}",
+        ReportText {
+            setup,
+            longest,
+            outcomes
+        }
+    )
 }

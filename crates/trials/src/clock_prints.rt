@@ -2,6 +2,7 @@
 use clocking::state::ClockRecord;
 use clocktable::table::clock_table;
 use listing::image::{bytes_of, padded};
+use listing::program::data_memory;
 use memory::{Flat, Memory};
 use pipeline::journal::Journal;
 use pipeline::machine::{Machine, RetiredAt, load};
@@ -34,12 +35,7 @@ fn print_of<P: Predictor + Drop, I: Memory + Drop, D: Memory + Drop>(
 
 /// A flat memory of these words, padded.
 fn image_of(heap: Global, words: &[u32]) -> Result<Flat, Fail> {
-    Ok(Flat::new(padded(bytes_of(heap, words)?)?.into_bytes()))
-}
-
-/// 4096 zero bytes.
-fn data_of(heap: Global) -> Result<Flat, Fail> {
-    Ok(Flat::new(vec![in heap; 0u8; 4096]?))
+    Ok(padded(bytes_of(heap, words)?)?.into_memory())
 }
 
 /// The lines of what retired, those of the clocks and the last one are the print of this machine.
@@ -68,7 +64,7 @@ fn prints_plain(
     clocks: &str,
     end: &str,
 ) -> Result<(), Fail> {
-    let machine = load(0, 0, Never, image_of(heap, words)?, data_of(heap)?);
+    let machine = load(0, 0, Never, image_of(heap, words)?, data_memory(heap)?);
     prints(rt, heap, machine, retired, clocks, end)
 }
 
@@ -92,7 +88,7 @@ fn a_loop_never_guessed(rt: HostRuntime) -> Result<(), Fail> {
 #[test]
 fn a_loop_guessed_backward(rt: HostRuntime) -> Result<(), Fail> {
     let heap = rt.alloc();
-    let machine = load(0, 0, Backward, image_of(heap, &LOOP)?, data_of(heap)?);
+    let machine = load(0, 0, Backward, image_of(heap, &LOOP)?, data_memory(heap)?);
     prints(
         &rt,
         heap,
@@ -134,7 +130,7 @@ fn a_rollback_from_data(rt: HostRuntime) -> Result<(), Fail> {
 fn a_data_wait(rt: HostRuntime) -> Result<(), Fail> {
     let heap = rt.alloc();
     let words = [0x0000_2083, 0x0050_0113, 0x0060_0193, 0x0000_0073];
-    let data = WaitStates::new(data_of(heap)?, 1);
+    let data = WaitStates::new(data_memory(heap)?, 1);
     prints(
         &rt,
         heap,
@@ -153,7 +149,7 @@ fn a_fetch_wait(rt: HostRuntime) -> Result<(), Fail> {
     prints(
         &rt,
         heap,
-        load(0, 0, Never, image, data_of(heap)?),
+        load(0, 0, Never, image, data_memory(heap)?),
         "1 6 0 200093 1 2\n",
         "1 0 - - - - f\n2 0 - - - - -\n3 4 0 - - - f\n4 4 - 0 - - -\n5 8 4 - 0 - f\n6 8 - 4 - 0 -\n7 c 8 - 4 - r\n8 c - - - 4 s\n",
         "stop 11 4 fetched 3 retired 1 dropped 1",

@@ -65,9 +65,7 @@ const LINES: [(u32, &str); 47] = [
 #[test]
 fn words_and_lines(rt: HostRuntime) -> Result<(), Fail> {
     for (word, line) in LINES {
-        let Some(instruction) = decode(word) else {
-            return Err(Fail::new("illegal"));
-        };
+        let instruction = decode(word).ok_or_else(|| Fail::new("illegal"))?;
         let text = assembly(rt.alloc(), instruction)?;
         assert_eq!(rt; text.as_str(), line);
         assert_eq!(rt; encode(instruction), Ok(word));
@@ -104,9 +102,7 @@ fn all_else_is_illegal(rt: HostRuntime) {
 #[test]
 fn all_fences_are_one(rt: HostRuntime) -> Result<(), Fail> {
     for word in [0x0000_000f, 0x8330_000f, 0x0ff0_8f8f] {
-        let Some(instruction) = decode(word) else {
-            return Err(Fail::new("illegal"));
-        };
+        let instruction = decode(word).ok_or_else(|| Fail::new("illegal"))?;
         let text = assembly(rt.alloc(), instruction)?;
         assert_eq!(rt; text.as_str(), "fence");
         assert_eq!(rt; encode(instruction), Ok(0x0ff0_000f));

@@ -3,7 +3,7 @@ ghost use Rattle.std.specs.Prelude.{◌≡◌, true, false, IfOk, string_bytes};
 ghost use Rattle.report.specs.Timings.{Shown, outcomes_of};
 
 use super::assembly::Assembly;
-use crate::lines::{Outcomes, report, write_report};
+use crate::lines::{Outcomes, ReportText, report};
 use clocking::state::ClockRecord;
 use clocktable::table::tables;
 use longrun::gaps::Gaps;
@@ -14,6 +14,7 @@ use pipeline::machine::{Machine, RetiredAt};
 use predictor::Predictor;
 use setup::choice::Setup;
 use std::alloc::{AllocError, Global};
+use std::fmt::Write;
 
 /// What the machine came to, with these gaps.
 fn outcomes_of<P: Predictor, I: Memory, D: Memory>(
@@ -59,6 +60,7 @@ fn logged<P: Predictor, I: Memory, D: Memory>(
     requires { setup.now.log ≡ true }
     ensures { IfOk result (λ t. Shown P.Predictor.table I.Memory.means D.Memory.means setup.now assembly.old.longest assembly.old.machine (string_bytes t)) }
 {
+    // The slots are the caller's own, so they stand beside the journal that borrows them.
     let mut retired_slots = vec![in heap; RetiredAt::EMPTY; setup.clocks as usize]?;
     let mut clock_slots = vec![in heap; ClockRecord::EMPTY; setup.clocks as usize]?;
     let mut journal = Journal::new(retired_slots.as_mut_slice(), clock_slots.as_mut_slice());
@@ -70,12 +72,12 @@ fn logged<P: Predictor, I: Memory, D: Memory>(
         journal.retirements.records(),
         journal.clocks.records(),
     )?;
-    write_report(
-        &mut text,
-        setup,
-        assembly.longest,
-        outcomes_of(&assembly.machine, &gaps),
-    )?;
+    let report = ReportText {
+        setup: *setup,
+        longest: assembly.longest,
+        outcomes: outcomes_of(&assembly.machine, &gaps),
+    };
+    write!(text, "{report}")?;
     Ok(text)
 }
 

@@ -2,9 +2,23 @@
 use crate::answer::printed;
 use crate::image::{bytes_of, padded};
 use crate::program::data_memory;
+use crate::records::EndText;
+use crate::sequence::sequence_text;
 use base::refusal::Refusal;
 use memory::Memory;
+use sequential::record::Retired;
 use std::test::Fail;
+
+#[test]
+fn a_table_has_a_line_for_each(rt: HostRuntime) -> Result<(), Fail> {
+    let text = sequence_text(rt.alloc(), &[Retired::EMPTY; 2], None)?;
+    assert_eq!(rt;
+        text.as_str(),
+        "retired address word rd value\n1 0 0 - 0\n2 0 0 - 0\nlimit retired 2\n"
+    );
+    assert_eq!(rt; EndText(None).to_string(rt.alloc())?.as_str(), "limit");
+    Ok(())
+}
 
 #[test]
 fn an_answer_is_printed(rt: HostRuntime) -> Result<(), Fail> {

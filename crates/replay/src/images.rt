@@ -76,8 +76,11 @@ pub fn replay(heap: Global, image: &Image) -> Result<String, AllocError> {
 
 /// Puts words in a row into an image, as far as they are numbers; none where one is not.
 fn put_words(image: &mut Image, address: u32, words: &str) -> Option<()> {
-    for (place, word) in (0..=u32::MAX).step_by(4).zip(words.split_whitespace()) {
-        image.put(address.wrapping_add(place), hexadecimal(word)?);
+    let mut address = address;
+    // a counter, since addresses wrap, which no range does
+    for word in words.split_whitespace() {
+        image.put(address, hexadecimal(word)?);
+        address = address.wrapping_add(4);
     }
     Some(())
 }

@@ -25,6 +25,7 @@ pub fn execute(d: Decoded) -> Result<Executed, Cause>
 }
 
 /// What becomes of a latch before which nothing moves: it stays, unless it is empty.
+// No From: what becomes of a latch that is held up is no other form of it.
 pub(crate) fn held_up<T: Copy>(latch: &Latch<T>) -> Flow
     ensures { result ≡ held_up latch.now }
 {

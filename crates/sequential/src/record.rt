@@ -47,7 +47,7 @@ impl Retired {
             address,
             word,
             rd,
-            // a match, so that both cases are seen
+            // a match: both cases are the rule's, and `map_or` would be no plainer
             value: match rd {
                 Some(_) => value,
                 None => 0,

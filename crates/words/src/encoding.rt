@@ -166,6 +166,7 @@ fn word_u(opcode: Field<7>, rd: Register, imm: u32) -> Result<u32, Refusal>
 }
 
 /// A word of the J format.
+// The format's own fields, as at word_u: a struct of them would be built to be taken apart.
 fn word_j(opcode: Field<7>, rd: Register, offset: i32) -> Result<u32, Refusal>
     ensures { result ≡ word_j opcode.value rd.number offset }
 {

@@ -9,7 +9,7 @@ use setup::choice::Setup;
 use setup::message::{HELP, fault_text};
 use setup::options::{Command, command_of};
 use std::env;
-use std::io::Read;
+use std::io::{IsTerminal, Read};
 use std::process::ExitCode;
 use std::time::Instant;
 
@@ -22,16 +22,23 @@ const FIRST: u64 = 2;
 /// How many seconds pass between two such lines.
 const NEXT: u64 = 10;
 
+/// How many seconds pass where each line takes the place of the one before.
+const NEXT_IN_PLACE: u64 = 1;
+
 /// Says on standard error how far a long run has come.
 #[derive(Drop)]
 struct Progress<'a> {
     rt: &'a HostRuntime,
     start: Instant,
     limit: u32,
+    /// Whether standard error is a terminal, where each line takes the place of the one before.
+    in_place: bool,
     /// At which clock to look at the time again.
     look: u32,
     /// After which second to say something again.
     say: u64,
+    /// Whether the last line is still to be ended.
+    open: bool,
 }
 
 impl<'a> Progress<'a> {
@@ -40,19 +47,36 @@ impl<'a> Progress<'a> {
             rt,
             start: Instant::now(rt)?,
             limit,
+            in_place: rt.stderr().is_terminal(),
             look: LOOK,
             say: FIRST,
+            open: false,
         })
     }
 
     /// Says how far the run has come, if enough time has passed.
     fn tell(&mut self, clocks: u32) -> anyhow::Result<()> {
         let seconds = self.start.elapsed(self.rt)?.as_secs();
-        if seconds >= self.say {
+        if seconds < self.say {
+            return Ok(());
+        }
+        if self.in_place {
+            self.say = seconds.saturating_add(NEXT_IN_PLACE);
+            self.open = true;
+            eprint!(self.rt; "\rtiming: {clocks} of at most {} clocks", self.limit)?;
+        } else {
             self.say = seconds.saturating_add(NEXT);
             eprintln!(self.rt; "timing: {clocks} of at most {} clocks", self.limit)?;
         }
         Ok(())
+    }
+
+    /// Ends the last line, where it is still to be ended.
+    fn end(&self) {
+        if self.open {
+            // as in `made`
+            let _ = eprintln!(self.rt);
+        }
     }
 }
 
@@ -76,7 +100,9 @@ fn run(rt: &HostRuntime, setup: &Setup) -> anyhow::Result<ExitCode> {
     let mut image = Vec::new(rt.alloc());
     rt.stdin().read_to_end(&mut image)?;
     let mut progress = Progress::new(rt, setup.clocks)?;
-    match timing_of(rt.alloc(), setup, image, &mut progress) {
+    let answer = timing_of(rt.alloc(), setup, image, &mut progress);
+    progress.end();
+    match answer {
         Ok(text) => {
             print!(rt; "{text}")?;
             Ok(ExitCode::SUCCESS)

@@ -11,7 +11,7 @@ use Rattle.rv32i.specs.declared.register.Register.{Register}
 use Rattle.rv32i.specs.declared.registers.Registers.{Registers}
 use Rattle.clocking.specs.Clock.{completes, executes, reads, decodes, plans, latches_after}
 use Rattle.clocking.specs.Counting.{occupied, in_flight_count, has_fetched, if_rolled, dropped, one_if}
-use Rattle.clocking.specs.Stages.{data_request, told, data_stage, execute, turned, checked, execute_stage, source, with_operands, decode_word, decode_stage, fetching, fetches_on, fetch_stage}
+use Rattle.clocking.specs.Stages.{ExecuteOut, DecodeOut, data_request, told, data_stage, execute, turned, checked, execute_stage, source, with_operands, decode_word, decode_stage, fetching, fetches_on, fetch_stage}
 use Rattle.clocking.specs.declared.latch.Fetched.{Fetched}
 use Rattle.clocking.specs.declared.latch.Decoded.{Decoded}
 use Rattle.clocking.specs.declared.latch.Executed.{Executed}
@@ -20,8 +20,6 @@ use Rattle.clocking.specs.declared.latch.Latch.TheVariants.{Empty, Full}
 use Rattle.clocking.specs.declared.latch.Latches.{Latches}
 use Rattle.clocking.specs.declared.stage.Flow.{Flow}
 use Rattle.clocking.specs.declared.stage.Flow.TheVariants.{Moves, Stays, RollsBack}
-use Rattle.clocking.specs.declared.stage.DecodeOut.{DecodeOut}
-use Rattle.clocking.specs.declared.stage.ExecuteOut.{ExecuteOut}
 
 -- how many stay before a stage
 abbrev staying : {T : Type 0} → Flow → Latch T → ℕ

@@ -20,12 +20,8 @@ use Rattle.rv32i.specs.declared.instruction.Instruction.{Instruction}
 use Rattle.rv32i.specs.declared.registers.Registers.{Registers}
 use Rattle.clocking.specs.Clock.{plans, latches_after}
 use Rattle.clocking.specs.Ports.{Table, arrival}
-use Rattle.clocking.specs.Stages.{data_request, sent, complete, told, execute, turned, checked, execute_stage, gives, or_else, value_of, values_in_flight, source, with_operands, decode_word, decode_stage, x_result, fetching, fetches_on, fetch_stage}
+use Rattle.clocking.specs.Stages.{DataOut, ExecuteOut, DecodeOut, FetchOut, data_request, sent, complete, told, execute, turned, checked, execute_stage, gives, or_else, value_of, values_in_flight, source, with_operands, decode_word, decode_stage, x_result, fetching, fetches_on, fetch_stage}
 use Rattle.clocking.specs.declared.latch.Latches.{Latches}
-use Rattle.clocking.specs.declared.stage.DataOut.{DataOut}
-use Rattle.clocking.specs.declared.stage.DecodeOut.{DecodeOut}
-use Rattle.clocking.specs.declared.stage.ExecuteOut.{ExecuteOut}
-use Rattle.clocking.specs.declared.stage.FetchOut.{FetchOut}
 use Rattle.clocking.proofs.Link.{waits_for, Worn}
 use Rattle.clocking.proofs.Chain.{Flows}
 use Rattle.clocking.proofs.Fetch.{asked_if}

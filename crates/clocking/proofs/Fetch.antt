@@ -15,8 +15,7 @@ use Rattle.words.specs.Issues.{issued}
 use Rattle.rv32i.specs.declared.cause.Cause.{Cause}
 use Rattle.rv32i.specs.declared.cause.Cause.TheVariants.{JumpMisaligned, FetchOutside}
 use Rattle.sequential.specs.Sequential.{fetch}
-use Rattle.clocking.specs.Stages.{sent, fetching, redirected, fetches_on, fetch_stage}
-use Rattle.clocking.specs.declared.stage.FetchOut.{FetchOut}
+use Rattle.clocking.specs.Stages.{FetchOut, sent, fetching, redirected, fetches_on, fetch_stage}
 use Rattle.clocking.proofs.Chain.{Reach, HoldsD, behindD, Leads, guessed}
 use Rattle.clocking.proofs.Decode.{Rests}
 use Rattle.clocking.proofs.Execute.{Turned}

@@ -13,7 +13,7 @@ use Rattle.sequential.specs.declared.record.Retirement.{Retirement}
 use Rattle.sequential.specs.declared.record.Stop.{Stop}
 use Rattle.clocking.specs.Counting.{has_fetched, dropped, Counted, stays, moves, rolls_back, is_wait}
 use Rattle.clocking.specs.Ports.{Table, Asked, Taught, arrival}
-use Rattle.clocking.specs.Stages.{data_request, sent, data_stage, execute_stage, x_result, values_in_flight, decode_stage, fetching, fetch_stage}
+use Rattle.clocking.specs.Stages.{DataOut, ExecuteOut, DecodeOut, FetchOut, data_request, sent, data_stage, execute_stage, x_result, values_in_flight, decode_stage, fetching, fetch_stage}
 use Rattle.clocking.specs.declared.state.Core.{Core}
 use Rattle.clocking.specs.declared.state.ClockRecord.{ClockRecord}
 use Rattle.clocking.specs.declared.state.Event.{Event}
@@ -23,10 +23,6 @@ use Rattle.clocking.specs.declared.latch.Fetched.{Fetched}
 use Rattle.clocking.specs.declared.latch.Latch.{Latch}
 use Rattle.clocking.specs.declared.latch.Latch.TheVariants.{Empty, Faulting, Full}
 use Rattle.clocking.specs.declared.latch.Latches.{Latches}
-use Rattle.clocking.specs.declared.stage.DataOut.{DataOut}
-use Rattle.clocking.specs.declared.stage.ExecuteOut.{ExecuteOut}
-use Rattle.clocking.specs.declared.stage.DecodeOut.{DecodeOut}
-use Rattle.clocking.specs.declared.stage.FetchOut.{FetchOut}
 
 -- ---- write-back
 

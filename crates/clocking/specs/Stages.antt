@@ -23,10 +23,6 @@ use Rattle.clocking.specs.declared.latch.Latch.{Latch}
 use Rattle.clocking.specs.declared.latch.Latch.TheVariants.{Empty, Faulting, Full}
 use Rattle.clocking.specs.declared.stage.Flow.{Flow}
 use Rattle.clocking.specs.declared.stage.Flow.TheVariants.{Moves, Stays, RollsBack}
-use Rattle.clocking.specs.declared.stage.DataOut.{DataOut}
-use Rattle.clocking.specs.declared.stage.ExecuteOut.{ExecuteOut}
-use Rattle.clocking.specs.declared.stage.DecodeOut.{DecodeOut}
-use Rattle.clocking.specs.declared.stage.FetchOut.{FetchOut}
 
 -- ---- what is asked of a memory
 
@@ -36,6 +32,11 @@ sent (Err c) = None
 sent (Ok q) = q
 
 -- ---- data
+
+-- what goes to W, and what became of M
+pub record DataOut : Type 0 where
+  pub w : Latch Completed
+  pub flow : Flow
 
 -- what M asks of a data memory of that size, or the cause that its address has
 abbrev pub data_request : ℕ → Latch Executed → Result (Option Request) Cause
@@ -64,6 +65,12 @@ data_stage (Faulting stop) q r = record { w = Faulting stop; flow = RollsBack }
 data_stage (Full e) q r = told e q r
 
 -- ---- execute
+
+-- what goes to M, what became of X, and after a wrong guess where fetching has to go on
+pub record ExecuteOut : Type 0 where
+  pub m : Latch Executed
+  pub flow : Flow
+  pub redirect : Option ℕ
 
 abbrev pub ran : Decoded → Effect → Executed
 ran d e = record {
@@ -109,6 +116,11 @@ x_result Moves m = m
 x_result flow m = Empty
 
 -- ---- decode
+
+-- what goes to X, and what became of D
+pub record DecodeOut : Type 0 where
+  pub x : Latch Decoded
+  pub flow : Flow
 
 -- whether an instruction that writes rd gives the register
 abbrev pub gives : Option Register → Register → Bool
@@ -180,6 +192,11 @@ decode_stage reads x d Stays = decode_stays x d
 decode_stage reads x d Moves = decode_moves reads d
 
 -- ---- fetch
+
+-- where fetching goes on, and what goes to D
+pub record FetchOut : Type 0 where
+  pub f : ℕ
+  pub d : Latch Fetched
 
 -- what is asked of an instruction memory of that size for f, or the cause that f has, by what the decode stage did with D
 abbrev pub fetching : ℕ → ℕ → Flow → Result (Option Request) Cause

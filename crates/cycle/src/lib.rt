@@ -8,9 +8,9 @@ ghost use Rattle.clocking.specs.Stages.{decode_stage, values_in_flight, x_result
 ghost use Rattle.cycle.specs.Cycles.{Cycles};
 
 use clocking::counts::Counts;
-use clocking::latch::{Latch, Latches};
-use clocking::stage::{DataOut, DecodeOut, ExecuteOut};
-use clocking::state::{Core, Event};
+use clocking::latch::{Completed, Executed, Latch, Latches};
+use clocking::stage::Flow;
+use clocking::state::{Core, Event, Notes};
 use memory::Memory;
 use ports::asking::{arrival, ask_or_idle, teach};
 use ports::counting::{dropped, has_fetched};
@@ -20,7 +20,7 @@ use rv32i::registers::Registers;
 use sequential::record::Stop;
 use stages::data::{data_request, data_stage, sent};
 use stages::decode::{InFlight, decode_stage};
-use stages::execute::{execute_stage, x_result};
+use stages::execute::execute_stage;
 use stages::fetch::{fetch_stage, fetching};
 use stages::write_back::{outcome_of, retirement_of, stop_of, write_back};
 
@@ -55,23 +55,27 @@ fn halt<P: Predictor, I: Memory, D: Memory>(core: &mut Core<P, I, D>, stop: Stop
     }
 }
 
-/// The decode stage, with what the stages before it made of X and M.
+/// The decode stage, with what data and execute made of M and X; `m` and `w` are those latches as they were.
 fn decode<'a>(
+    completes: Flow,
+    executes: Flow,
+    m: &'a Latch<Executed>,
+    w: &'a Latch<Completed>,
     registers: &'a Registers,
-    latches: &'a Latches,
-    completes: &'a DataOut,
-    executes: &ExecuteOut,
-) -> DecodeOut
-    ensures { result ≡ decode_stage (values_in_flight (x_result completes.now.flow executes.now.m) latches.now.m completes.now.w latches.now.w registers.now) latches.now.x latches.now.d executes.now.flow }
+    latches: &'a mut Latches,
+) -> Flow
+    ensures latches { latches.new ≡ record { f = latches.old.f; d = latches.old.d; x = (decode_stage (values_in_flight (x_result completes latches.old.m) m.now latches.old.w w.now registers.now) latches.old.x latches.old.d executes).x; m = latches.old.m; w = latches.old.w } }
+    ensures flow { result ≡ (decode_stage (values_in_flight (x_result completes latches.old.m) m.now latches.old.w w.now registers.now) latches.old.x latches.old.d executes).flow }
 {
     let in_flight = InFlight {
-        x: &x_result(completes.flow, executes.m),
-        m: &latches.m,
-        answer: &completes.w,
-        w: &latches.w,
+        flow: completes,
+        x: &latches.m,
+        m,
+        answer: &latches.w,
+        w,
         registers,
     };
-    decode_stage(in_flight, &latches.x, &latches.d, executes.flow)
+    decode_stage(in_flight, &latches.d, executes, &mut latches.x)
 }
 
 /// W retires, and the rest moves on.
@@ -79,47 +83,54 @@ fn advance<P: Predictor, I: Memory, D: Memory>(core: &mut Core<P, I, D>) -> Even
     requires { (core.old.stopped ≡ None) × (core.old.counts.clocks < 4294967295) }
     ensures { Moved P.Predictor.table I.Memory.means D.Memory.means core.old result core.new }
 {
-    let retirement = retirement_of(&core.latches.w);
-    teach(&mut core.predictor, outcome_of(&retirement));
+    let mut event = Event {
+        clock: clock_record(core.counts.clocks + 1, &core.latches, Notes::NONE),
+        retirement: retirement_of(&core.latches.w),
+    };
+    teach(&mut core.predictor, outcome_of(&core.latches.w));
     write_back(&mut core.registers, &core.latches.w);
+
+    // M and W as they were, for what decode reads of them
+    let m = core.latches.m;
+    let w = core.latches.w;
 
     let asked = data_request(core.data.size(), &core.latches.m);
     let reply = ask_or_idle(&mut core.data, sent(asked));
-    let completes = data_stage(&core.latches.m, asked, reply);
+    let completes = data_stage(&core.latches.m, asked, reply, &mut core.latches.w);
 
-    let executes = execute_stage(&core.latches.m, &core.latches.x, completes.flow);
+    let executes = execute_stage(&core.latches.x, completes, &mut core.latches.m);
+    let gone = dropped(&core.latches, completes, executes.flow);
 
-    let decodes = decode(&core.registers, &core.latches, &completes, &executes);
+    let decodes = decode(
+        completes,
+        executes.flow,
+        &m,
+        &w,
+        &core.registers,
+        &mut core.latches,
+    );
 
     let f = core.latches.f;
-    let fetch = fetching(core.instructions.size(), f, decodes.flow);
+    let fetch = fetching(core.instructions.size(), f, decodes);
     let answer = ask_or_idle(&mut core.instructions, sent(fetch));
     let arrival = arrival(&core.predictor, f, answer);
-    let fetches = fetch_stage(
+    core.latches.f = fetch_stage(
         f,
-        &core.latches.d,
-        decodes.flow,
+        decodes,
         fetch,
         arrival,
         executes.redirect,
+        &mut core.latches.d,
     );
 
     count(
         &mut core.counts,
         has_fetched(fetch, &arrival),
-        retirement.is_some(),
-        dropped(&core.latches, completes.flow, executes.flow),
+        event.retirement.is_some(),
+        gone,
     );
-    let notes = notes(completes.flow, executes.flow, decodes.flow, answer);
-    let clock = clock_record(core.counts.clocks, &core.latches, notes);
-    core.latches = Latches {
-        f: fetches.f,
-        d: fetches.d,
-        x: decodes.x,
-        m: executes.m,
-        w: completes.w,
-    };
-    Event { clock, retirement }
+    event.clock.notes = notes(completes, executes.flow, decodes, answer);
+    event
 }
 
 /// One clock: what it does to the core, and what it tells. A core that has stopped or has made all its clocks stays as it

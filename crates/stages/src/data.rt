@@ -1,10 +1,11 @@
 //! The data stage: M goes to W, with the data memory's answer.
 ghost use Rattle.std.specs.Prelude.{◌≡◌};
-ghost use Rattle.clocking.specs.Stages.{data_request, sent, complete, completes_with, data_stage};
+ghost use Rattle.clocking.specs.declared.latch.Latch.TheVariants.{Full};
+ghost use Rattle.clocking.specs.Stages.{data_request, sent, complete, data_stage};
 
 use base::bus::Request;
 use clocking::latch::{Completed, Executed, Latch};
-use clocking::stage::{DataOut, Flow};
+use clocking::stage::Flow;
 use memory::{Answer, Reply, Unserved};
 use rv32i::cause::Cause;
 use rv32i::effect::{loaded, request};
@@ -27,56 +28,58 @@ pub fn sent(asked: Result<Option<Request>, Cause>) -> Option<Request>
     asked.unwrap_or(None)
 }
 
-/// M goes to W with that value.
-fn completes_with(e: Executed, value: u32) -> DataOut
-    ensures { result ≡ completes_with e value }
+/// An instruction with its value, as it goes to W.
+fn complete(e: Executed, value: u32) -> Latch<Completed>
+    ensures { result ≡ Full (complete e value) }
 {
-    DataOut {
-        w: Latch::Full(Completed {
-            address: e.address,
-            word: e.word,
-            rd: e.rd,
-            value,
-            outcome: e.outcome,
-        }),
-        flow: Flow::Moves,
-    }
+    Latch::Full(Completed {
+        address: e.address,
+        word: e.word,
+        rd: e.rd,
+        value,
+        outcome: e.outcome,
+    })
 }
 
 /// A cause goes to W and rolls back; M waits while the memory does; all else goes to W.
+// W is filled in place, and only what became of M is handed out: no latch is copied.
 pub fn data_stage(
     m: &Latch<Executed>,
     asked: Result<Option<Request>, Cause>,
     reply: Option<Reply>,
-) -> DataOut
-    ensures { result ≡ data_stage m.now asked reply }
+    w: &mut Latch<Completed>,
+) -> Flow
+    ensures w { w.new ≡ (data_stage m.now asked reply).w }
+    ensures flow { result ≡ (data_stage m.now asked reply).flow }
 {
     match *m {
-        Latch::Empty => DataOut {
-            w: Latch::Empty,
-            flow: Flow::Moves,
-        },
-        Latch::Faulting(stop) => DataOut {
-            w: Latch::Faulting(stop),
-            flow: Flow::RollsBack,
-        },
+        Latch::Empty => {
+            *w = Latch::Empty;
+            Flow::Moves
+        }
+        Latch::Faulting(stop) => {
+            *w = Latch::Faulting(stop);
+            Flow::RollsBack
+        }
         Latch::Full(e) => match (asked, reply) {
-            (Err(cause), _) => DataOut {
-                w: Latch::Faulting(Stop {
+            (Err(cause), _) => {
+                *w = Latch::Faulting(Stop {
                     address: e.address,
                     cause,
-                }),
-                flow: Flow::RollsBack,
-            },
-            (Ok(_), Some(Err(Unserved::Wait))) => DataOut {
-                w: Latch::Empty,
-                flow: Flow::Stays,
-            },
+                });
+                Flow::RollsBack
+            }
+            (Ok(_), Some(Err(Unserved::Wait))) => {
+                *w = Latch::Empty;
+                Flow::Stays
+            }
             (Ok(_), Some(Ok(Answer::Word(word)))) => {
-                completes_with(e, loaded(e.access, e.result, word))
+                *w = complete(e, loaded(e.access, e.result, word));
+                Flow::Moves
             }
             (Ok(_), None | Some(Ok(Answer::Done) | Err(Unserved::Outside))) => {
-                completes_with(e, e.result)
+                *w = complete(e, e.result);
+                Flow::Moves
             }
         },
     }

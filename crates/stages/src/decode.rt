@@ -5,7 +5,7 @@ ghost use Rattle.stages.specs.Flight.{values};
 
 use crate::execute::held_up;
 use clocking::latch::{Completed, Decoded, Executed, Fetched, Latch};
-use clocking::stage::{DecodeOut, Flow};
+use clocking::stage::Flow;
 use rv32i::effect::Access;
 use rv32i::instruction::Instruction;
 use rv32i::register::Register;
@@ -32,10 +32,11 @@ fn arrived(answer: &Latch<Completed>) -> Option<u32>
     }
 }
 
-/// What is in flight, to an instruction in D: X with this clock's result, M with this clock's answer, W, and the register file
-/// that W is written back to.
+/// What is in flight, to an instruction in D: X with this clock's result, which it put into M if M moved; M with this clock's
+/// answer; W, and the register file that W is written back to.
 #[derive(Clone, Copy)]
 pub struct InFlight<'a> {
+    pub flow: Flow,
     pub x: &'a Latch<Executed>,
     pub m: &'a Latch<Executed>,
     pub answer: &'a Latch<Completed>,
@@ -48,7 +49,8 @@ impl InFlight<'_> {
     fn forwarded(self, r: Register) -> Option<u32>
         ensures { result ≡ values self.entry r }
     {
-        if let Latch::Full(e) = *self.x
+        if self.flow == Flow::Moves
+            && let Latch::Full(e) = *self.x
             && e.rd == Some(r)
         {
             early(e.access, e.result)
@@ -78,69 +80,71 @@ impl InFlight<'_> {
 }
 
 /// The instruction goes to X with its operands, or stays while one is not there.
-fn with_operands(f: Fetched, instruction: Instruction, a: Option<u32>, b: Option<u32>) -> DecodeOut
-    ensures { result ≡ with_operands f instruction a b }
+fn with_operands(
+    f: Fetched,
+    instruction: Instruction,
+    a: Option<u32>,
+    b: Option<u32>,
+    x: &mut Latch<Decoded>,
+) -> Flow
+    ensures x { x.new ≡ (with_operands f instruction a b).x }
+    ensures flow { result ≡ (with_operands f instruction a b).flow }
 {
     let (Some(a), Some(b)) = (a, b) else {
-        return DecodeOut {
-            x: Latch::Empty,
-            flow: Flow::Stays,
-        };
+        *x = Latch::Empty;
+        return Flow::Stays;
     };
-    DecodeOut {
-        x: Latch::Full(Decoded {
-            address: f.address,
-            word: f.word,
-            instruction,
-            rd: instruction.destination(),
-            a,
-            b,
-            guess: f.guess,
-        }),
-        flow: Flow::Moves,
-    }
+    *x = Latch::Full(Decoded {
+        address: f.address,
+        word: f.word,
+        instruction,
+        rd: instruction.destination(),
+        a,
+        b,
+        guess: f.guess,
+    });
+    Flow::Moves
 }
 
 /// D is dropped after a rollback and stays while X stays; else it goes to X, unless an operand is not there.
 // The cases are those of execute and data, with what this stage gives: the rule is read stage by stage.
+// X is filled in place, where it does not stay.
 pub fn decode_stage(
     in_flight: InFlight<'_>,
-    x: &Latch<Decoded>,
     d: &Latch<Fetched>,
     flow: Flow,
-) -> DecodeOut
-    ensures { result ≡ decode_stage (values in_flight.entry) x.now d.now flow }
+    x: &mut Latch<Decoded>,
+) -> Flow
+    ensures x { x.new ≡ (decode_stage (values in_flight.entry) x.old d.now flow).x }
+    ensures flow { result ≡ (decode_stage (values in_flight.entry) x.old d.now flow).flow }
 {
     match flow {
-        Flow::RollsBack => DecodeOut {
-            x: Latch::Empty,
-            flow: Flow::RollsBack,
-        },
-        Flow::Stays => DecodeOut {
-            x: *x,
-            flow: held_up(d),
-        },
+        Flow::RollsBack => {
+            *x = Latch::Empty;
+            Flow::RollsBack
+        }
+        Flow::Stays => held_up(d),
         Flow::Moves => match *d {
-            Latch::Empty => DecodeOut {
-                x: Latch::Empty,
-                flow: Flow::Moves,
-            },
-            Latch::Faulting(stop) => DecodeOut {
-                x: Latch::Faulting(stop),
-                flow: Flow::Moves,
-            },
+            Latch::Empty => {
+                *x = Latch::Empty;
+                Flow::Moves
+            }
+            Latch::Faulting(stop) => {
+                *x = Latch::Faulting(stop);
+                Flow::Moves
+            }
             Latch::Full(f) => match f.issued {
-                Err(cause) => DecodeOut {
-                    x: Latch::Faulting(Stop {
+                Err(cause) => {
+                    *x = Latch::Faulting(Stop {
                         address: f.address,
                         cause,
-                    }),
-                    flow: Flow::Moves,
-                },
+                    });
+                    Flow::Moves
+                }
                 Ok(i) => {
                     let a = in_flight.source(i.first_source());
                     let b = in_flight.source(i.second_source());
-                    with_operands(f, i, a, b)
+                    with_operands(f, i, a, b, x)
                 }
             },
         },

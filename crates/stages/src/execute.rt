@@ -1,11 +1,30 @@
 //! The execute stage: X goes to M, computed.
-ghost use Rattle.std.specs.Prelude.{◌≡◌};
-ghost use Rattle.clocking.specs.Stages.{execute, execute_stage, held_up, x_result};
+ghost use Rattle.std.specs.Prelude.{◌≡◌, None};
+ghost use Rattle.clocking.specs.Stages.{execute, execute_stage, held_up};
 
 use clocking::latch::{Decoded, Executed, Latch};
-use clocking::stage::{ExecuteOut, Flow};
+use clocking::stage::Flow;
 use rv32i::cause::Cause;
 use sequential::record::Stop;
+
+/// What became of X; after a wrong guess, where fetching has to go on.
+#[derive(Clone, Copy, PartialEq, Eq, Debug)]
+pub struct Executing {
+    pub flow: Flow,
+    pub redirect: Option<u32>,
+}
+
+impl From<Flow> for Executing {
+    ghost from_gives = { λ flow e. e ≡ record { flow = flow; redirect = None } };
+
+    /// With no wrong guess.
+    fn from(flow: Flow) -> Executing {
+        Executing {
+            flow,
+            redirect: None,
+        }
+    }
+}
 
 /// What the instruction comes to, or why it may not.
 pub fn execute(d: Decoded) -> Result<Executed, Cause>
@@ -37,61 +56,47 @@ pub(crate) fn held_up<T: Copy>(latch: &Latch<T>) -> Flow
 
 /// X is dropped after a rollback and stays while M stays; else it goes to M, and rolls back what was fetched after it where
 /// its true next address is not the guessed one.
-pub fn execute_stage(m: &Latch<Executed>, x: &Latch<Decoded>, flow: Flow) -> ExecuteOut
-    ensures { result ≡ execute_stage m.now x.now flow }
+// M is filled in place, where it does not stay.
+pub fn execute_stage(x: &Latch<Decoded>, flow: Flow, m: &mut Latch<Executed>) -> Executing
+    ensures m { m.new ≡ (execute_stage m.old x.now flow).m }
+    ensures flow { result.flow ≡ (execute_stage m.old x.now flow).flow }
+    ensures redirect { result.redirect ≡ (execute_stage m.old x.now flow).redirect }
 {
     match flow {
-        Flow::RollsBack => ExecuteOut {
-            m: Latch::Empty,
-            flow: Flow::RollsBack,
-            redirect: None,
-        },
-        Flow::Stays => ExecuteOut {
-            m: *m,
-            flow: held_up(x),
-            redirect: None,
-        },
+        Flow::RollsBack => {
+            *m = Latch::Empty;
+            Flow::RollsBack.into()
+        }
+        Flow::Stays => held_up(x).into(),
         Flow::Moves => match *x {
-            Latch::Empty => ExecuteOut {
-                m: Latch::Empty,
-                flow: Flow::Moves,
-                redirect: None,
-            },
-            Latch::Faulting(stop) => ExecuteOut {
-                m: Latch::Faulting(stop),
-                flow: Flow::Moves,
-                redirect: None,
-            },
+            Latch::Empty => {
+                *m = Latch::Empty;
+                Flow::Moves.into()
+            }
+            Latch::Faulting(stop) => {
+                *m = Latch::Faulting(stop);
+                Flow::Moves.into()
+            }
             Latch::Full(d) => match execute(d) {
-                Err(cause) => ExecuteOut {
-                    m: Latch::Faulting(Stop {
+                Err(cause) => {
+                    *m = Latch::Faulting(Stop {
                         address: d.address,
                         cause,
-                    }),
-                    flow: Flow::Moves,
-                    redirect: None,
-                },
-                Ok(e) if e.next == d.guess => ExecuteOut {
-                    m: Latch::Full(e),
-                    flow: Flow::Moves,
-                    redirect: None,
-                },
-                Ok(e) => ExecuteOut {
-                    m: Latch::Full(e),
-                    flow: Flow::RollsBack,
-                    redirect: Some(e.next),
-                },
+                    });
+                    Flow::Moves.into()
+                }
+                Ok(e) => {
+                    *m = Latch::Full(e);
+                    if e.next == d.guess {
+                        Flow::Moves.into()
+                    } else {
+                        Executing {
+                            flow: Flow::RollsBack,
+                            redirect: Some(e.next),
+                        }
+                    }
+                }
             },
         },
-    }
-}
-
-/// X with this clock's result: what it put into M, if M moved.
-pub fn x_result(flow: Flow, m: Latch<Executed>) -> Latch<Executed>
-    ensures { result ≡ x_result flow m }
-{
-    match flow {
-        Flow::Moves => m,
-        Flow::Stays | Flow::RollsBack => Latch::Empty,
     }
 }

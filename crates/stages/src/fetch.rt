@@ -4,7 +4,7 @@ ghost use Rattle.clocking.specs.Stages.{fetching, fetch_stage};
 
 use base::bus::Request;
 use clocking::latch::{Fetched, Latch};
-use clocking::stage::{FetchOut, Flow};
+use clocking::stage::Flow;
 use rv32i::cause::Cause;
 use sequential::record::Stop;
 
@@ -28,32 +28,37 @@ pub fn fetching(size: u32, f: u32, flow: Flow) -> Result<Option<Request>, Cause>
 
 /// After a rollback D is empty, and F is where the redirect says; while D stays, so does F; else what arrived goes into D,
 /// and F on to its guess.
+// D is filled in place, where it does not stay; what is handed out is F.
 pub fn fetch_stage(
     f: u32,
-    d: &Latch<Fetched>,
     flow: Flow,
     asked: Result<Option<Request>, Cause>,
     arrival: Option<Fetched>,
     redirect: Option<u32>,
-) -> FetchOut
-    ensures { result ≡ fetch_stage f d.now flow asked arrival redirect }
+    d: &mut Latch<Fetched>,
+) -> u32
+    ensures f { result ≡ (fetch_stage f d.old flow asked arrival redirect).f }
+    ensures d { d.new ≡ (fetch_stage f d.old flow asked arrival redirect).d }
 {
     match flow {
-        Flow::RollsBack => FetchOut {
-            f: redirect.unwrap_or(f),
-            d: Latch::Empty,
-        },
-        Flow::Stays => FetchOut { f, d: *d },
+        Flow::RollsBack => {
+            *d = Latch::Empty;
+            redirect.unwrap_or(f)
+        }
+        Flow::Stays => f,
         Flow::Moves => match (asked, arrival) {
-            (Err(cause), _) => FetchOut {
-                f: f.wrapping_add(4),
-                d: Latch::Faulting(Stop { address: f, cause }),
-            },
-            (Ok(Some(_)), Some(x)) => FetchOut {
-                f: x.guess,
-                d: Latch::Full(x),
-            },
-            (Ok(_), _) => FetchOut { f, d: Latch::Empty },
+            (Err(cause), _) => {
+                *d = Latch::Faulting(Stop { address: f, cause });
+                f.wrapping_add(4)
+            }
+            (Ok(Some(_)), Some(x)) => {
+                *d = Latch::Full(x);
+                x.guess
+            }
+            (Ok(_), _) => {
+                *d = Latch::Empty;
+                f
+            }
         },
     }
 }

@@ -31,10 +31,13 @@ pub fn retirement_of(w: &Latch<Completed>) -> Option<Retirement>
 }
 
 /// What became of the branch that retires, if it is one.
-pub fn outcome_of(retirement: &Option<Retirement>) -> Option<Outcome>
-    ensures { result ≡ outcome_of retirement.now }
+pub fn outcome_of(w: &Latch<Completed>) -> Option<Outcome>
+    ensures { result ≡ outcome_of (retirement_of w.now) }
 {
-    retirement.and_then(|r| r.outcome)
+    match *w {
+        Latch::Full(c) => c.outcome,
+        Latch::Empty | Latch::Faulting(_) => None,
+    }
 }
 
 /// Writes what retires to the register file.

@@ -31,14 +31,17 @@ impl<M: Memory> Memory for Boxed<M> {
 
     ghost obeys = { boxed_lawful M.Memory.obeys };
 
+    #[inline(always)]
     fn read(&mut self, address: u32) -> Result<u32, Unserved> {
         self.memory.read(address)
     }
 
+    #[inline(always)]
     fn write(&mut self, address: u32, word: u32, lanes: Lanes) -> Result<(), Unserved> {
         self.memory.write(address, word, lanes)
     }
 
+    #[inline(always)]
     fn idle(&mut self) {
         self.memory.idle()
     }
@@ -51,6 +54,7 @@ impl<M: Memory> Memory for Boxed<M> {
         self.memory.longest()
     }
 
+    #[inline(always)]
     fn size(&self) -> u32 {
         self.memory.size()
     }

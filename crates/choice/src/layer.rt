@@ -60,6 +60,7 @@ impl<M: Memory> Memory for Layer<M> {
 
     ghost obeys = { layer_lawful M.Memory.obeys };
 
+    #[inline(always)]
     fn read(&mut self, address: u32) -> Result<u32, Unserved> {
         match self {
             Layer::Plain(memory) => memory.read(address),
@@ -68,6 +69,7 @@ impl<M: Memory> Memory for Layer<M> {
         }
     }
 
+    #[inline(always)]
     fn write(&mut self, address: u32, word: u32, lanes: Lanes) -> Result<(), Unserved> {
         match self {
             Layer::Plain(memory) => memory.write(address, word, lanes),
@@ -76,6 +78,7 @@ impl<M: Memory> Memory for Layer<M> {
         }
     }
 
+    #[inline(always)]
     fn idle(&mut self) {
         match self {
             Layer::Plain(memory) => memory.idle(),
@@ -100,6 +103,7 @@ impl<M: Memory> Memory for Layer<M> {
         }
     }
 
+    #[inline(always)]
     fn size(&self) -> u32 {
         match self {
             Layer::Plain(memory) => memory.size(),

@@ -13,6 +13,7 @@ use rv32i::target::Target;
 use words::decoding::issue;
 
 /// The one call of a clock: the request, or idle.
+#[inline(always)]
 pub fn ask_or_idle<M: Memory>(memory: &mut M, request: Option<Request>) -> Option<Reply>
     ensures { Asked M.Memory.means memory.old request result memory.new }
 {

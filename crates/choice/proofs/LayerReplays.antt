@@ -23,7 +23,7 @@ module _ {N M : Type 0} (part : Meaning N) (whole : Meaning M) (case : N → M) 
   run n (asked q r f h) = let e = run n f in let d = serve e.0 q r _ (rw e.1 at h) in (d.0, d.1, asked q r e.2 d.2)
   run n (idled f h) = let e = run n f in let d = idle e.0 _ (rw e.1 at h) in (d.0, d.1, idled e.2 d.2)
 
-  replays : Replays part → (n : N) (o p : M) (calls : List (Option Request)) (r s : List Reply) → Runs whole (case n) calls r o → Runs whole (case n) calls s p → r ≡ s
+  pub replays : Replays part → (n : N) (o p : M) (calls : List (Option Request)) (r s : List Reply) → Runs whole (case n) calls r o → Runs whole (case n) calls s p → r ≡ s
   replays once n o p calls r s f g = let e = run n f in let d = run n g in once n e.0 d.0 calls r s e.2 d.2
 
 module _ {M : Type 0} {m : Meaning M} (laws : Lawful m) (below : Replays m) where

@@ -1,3 +1,3 @@
-pub mod BoxReplays
 pub mod LayerReplays
+pub mod PlacedReplays
 pub mod Stacking

@@ -1,7 +1,7 @@
-pub mod Boxes
+pub mod Placed
 pub mod Layers
 pub mod Stacks
 pub mod Predictors
-pub mod BoxLaws
+pub mod PlacedLaws
 pub mod Views
 pub mod LayerLaws

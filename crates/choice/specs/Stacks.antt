@@ -1,7 +1,9 @@
--- Stacks of memories that are chosen at run time. Assumes nothing.
-use Rattle.std.specs.Prelude.{◌≡◌, ℕ, ◌%◌, Bool, true, false, cond, ◌&&◌, vec_items, vec_len, Result, Vec, slice_index}
+-- Stacks of memories that are chosen at run time, and the memory that is asked then. Assumes nothing.
+use Rattle.std.specs.Prelude.{◌≡◌, ℕ, ◌%◌, Bool, true, false, cond, ◌&&◌, None, Ok, Err, box_value, vec_items, vec_len, Result, Vec, slice_index}
 use Rattle.std.specs.declared.alloc.Global.{Global}
-use Rattle.base.specs.Refusals.{Says}
+use Rattle.base.specs.Refusals.{number, Says}
+use Rattle.base.specs.declared.failure.Failure.{Failure}
+use Rattle.base.specs.declared.failure.Failure.TheVariants.{Refused, OutOfMemory}
 use Rattle.base.specs.declared.refusal.Refusal.{Refusal}
 use Rattle.memory.specs.declared.flat.Flat.{Flat}
 use Rattle.memory.specs.Flat.{flat_fits, flat_means}
@@ -9,6 +11,9 @@ use Rattle.memory.specs.Meaning.{View, Meaning}
 use Rattle.setup.specs.declared.choice.StackChoice.{StackChoice}
 use Rattle.choice.specs.declared.layer.Layer.{Layer}
 use Rattle.choice.specs.Layers.{layer_means, layer_fits, layer_wait, Starts}
+use Rattle.choice.specs.declared.placed.Placed.{Placed}
+use Rattle.choice.specs.declared.placed.Placed.TheVariants.{Here, OnHeap}
+use Rattle.choice.specs.Placed.{placed_means}
 
 -- what a stack means, and what can be seen of it
 abbrev pub stack_means : Meaning (Layer (Layer (Layer Flat)))
@@ -53,3 +58,29 @@ pub record Built (bytes : Vec ℕ Global) (choice : StackChoice) (s : Layer (Lay
 -- The answer to these bytes and this choice: the stack, or number 1 where a flat memory cannot have so many bytes, else number 2 where a layer does not fit.
 abbrev pub Answered : Vec ℕ Global → StackChoice → Result (Layer (Layer (Layer Flat))) Refusal → Type 0
 Answered bytes choice = Says (Built bytes choice) (λ why. (why ≡ cond (flat_fits (vec_len bytes)) 2 1) × (stack_fits bytes choice ≡ false))
+
+-- ---- the memory that is asked: a flat one where no layer is chosen, else a stack on the heap
+
+abbrev pub ChosenMemory : Type 0
+ChosenMemory = Placed Flat (Layer (Layer (Layer Flat)))
+
+abbrev pub chosen_means : Meaning ChosenMemory
+chosen_means = placed_means flat_means stack_means
+
+abbrev pub MadeOf : Vec ℕ Global → StackChoice → ChosenMemory → Type 0
+MadeOf bytes choice (Here f) = (choice ≡ record { top = None; middle = None; bottom = None }) × (f.bytes ≡ bytes) × (f.size ≡ vec_len bytes)
+MadeOf bytes choice (OnHeap b) = Built bytes choice (box_value b)
+
+-- The chosen memory, where it fits: all the bytes can be seen, and its longest wait is known.
+pub record Chosen (bytes : Vec ℕ Global) (choice : StackChoice) (m : ChosenMemory) : Type 0 where
+  pub fits : stack_fits bytes choice ≡ true
+  pub made : MadeOf bytes choice m
+  pub size : chosen_means.view.size m ≡ vec_len bytes
+  pub byte : (x : ℕ) → chosen_means.view.byte m x ≡ slice_index (vec_items bytes) x % 256
+  pub longest : chosen_means.view.longest m ≡ stack_wait choice
+
+-- The answer to these bytes and this choice: the memory, or the refusal of the stack; that there is no room on the heap is no refusal.
+abbrev pub ChosenAnswer : Vec ℕ Global → StackChoice → Result ChosenMemory Failure → Type 0
+ChosenAnswer bytes choice (Ok m) = Chosen bytes choice m
+ChosenAnswer bytes choice (Err (Refused why)) = (number why ≡ cond (flat_fits (vec_len bytes)) 2 1) × (stack_fits bytes choice ≡ false)
+ChosenAnswer bytes choice (Err (OutOfMemory error)) = Unit {0}

@@ -1,8 +1,8 @@
 //! The memories and the predictor of a run, chosen at run time.
 #![tactic(auto)]
 
-pub mod boxed;
 pub mod layer;
+pub mod placed;
 pub mod predictors;
 pub mod replies;
 pub mod stack;

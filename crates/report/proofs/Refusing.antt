@@ -8,17 +8,17 @@ use Rattle.base.specs.declared.failure.Failure.TheVariants.{Refused, OutOfMemory
 use Rattle.memory.specs.Flat.{flat_fits}
 use Rattle.pipeline.specs.Calls.{load_fits}
 use Rattle.choice.specs.Predictors.{chosen_table}
-use Rattle.choice.specs.Stacks.{layers_fit}
+use Rattle.choice.specs.Stacks.{layers_fit, ChosenMemory, chosen_means, ChosenAnswer}
 use Rattle.setup.specs.declared.choice.Setup.{Setup}
-use Rattle.report.specs.Timings.{Stack, Guesser, means, Shown, Assembled, Timed, StackAnswer, DataAnswer, AssemblyAnswer, refusal_of}
+use Rattle.report.specs.Timings.{Guesser, Shown, Assembled, Timed, DataAnswer, AssemblyAnswer, refusal_of}
 use Rattle.report.specs.declared.lines.Longest.{Longest}
 use Rattle.report.specs.declared.timing.assembly.Assembly.{Assembly}
 
--- the data memory, from what is said of its stack over zero bytes
-pub data_answer : (s : Setup) (v : Vec ℕ Global) (r : Result Stack Failure) → flat_fits s.data_size ≡ true → vec_len v ≡ s.data_size → vec_items v ≡ replicate s.data_size 0
-    → StackAnswer v s.«data» r → DataAnswer s r
+-- the data memory, from what is said of the chosen memory of zero bytes
+pub data_answer : (s : Setup) (v : Vec ℕ Global) (r : Result ChosenMemory Failure) → flat_fits s.data_size ≡ true → vec_len v ≡ s.data_size → vec_items v ≡ replicate s.data_size 0
+    → ChosenAnswer v s.«data» r → DataAnswer s r
 data_answer s v (Ok m) f n z b =
-    (f, (and_parts (flat_fits (vec_len v)) (layers_fit s.«data») b.fits).1, record { vector = v; holds = z; built = b })
+    (f, (and_parts (flat_fits (vec_len v)) (layers_fit s.«data») b.fits).1, record { vector = v; holds = z; chosen = b })
 data_answer s v (Err (Refused why)) f n z h =
     (h.0 ∙ ap (λ (k : ℕ). cond (flat_fits k) 2 1) n, sym (ap (λ (k : ℕ). flat_fits k && layers_fit s.«data») n) ∙ h.1)
 data_answer s v (Err (OutOfMemory error)) f n z h = tt
@@ -37,7 +37,7 @@ data_refused s image (Refused why) i h =
 data_refused s image (OutOfMemory error) i h = tt
 
 -- the same of what it is converted to
-pub data_refused_by : (s : Setup) (image : List ℕ) (e : Failure) (r : Result (Assembly Guesser Stack Stack) Failure) → is_err r ≡ true → IsErrAnd r (λ x. x ≡ e) → layers_fit s.instructions ≡ true → DataAnswer s (Err e)
+pub data_refused_by : (s : Setup) (image : List ℕ) (e : Failure) (r : Result (Assembly Guesser ChosenMemory ChosenMemory) Failure) → is_err r ≡ true → IsErrAnd r (λ x. x ≡ e) → layers_fit s.instructions ≡ true → DataAnswer s (Err e)
     → AssemblyAnswer s image r
 data_refused_by s image e (Ok a) z by i h = absurd (true≢false (sym z))
 data_refused_by s image e (Err x) z by i h = let P : Failure → Type 0 = λ y. DataAnswer s (Err y) in data_refused s image x i (subst P (sym by) h)
@@ -47,8 +47,8 @@ pub sound_setup : (s : Setup) (size : ℕ) → layers_fit s.instructions ≡ tru
 sound_setup s size e f g h = rw (e, f, g, h)
 
 -- the whole answer, from its parts
-pub timed : (s : Setup) (image whole : List ℕ) (a : Assembly Guesser Stack Stack) (text : List ℕ) → image ≡ whole → AssemblyAnswer s image (Ok a) → Shown chosen_table means means s a.longest a.machine text → Timed s whole text
+pub timed : (s : Setup) (image whole : List ℕ) (a : Assembly Guesser ChosenMemory ChosenMemory) (text : List ℕ) → image ≡ whole → AssemblyAnswer s image (Ok a) → Shown chosen_table chosen_means chosen_means s a.longest a.machine text → Timed s whole text
 timed s image whole a text e h run =
     let P : List ℕ → Type 0 = λ x. Assembled s x a.machine in
-    let Q : Longest → Type 0 = λ w. Shown chosen_table means means s w a.machine text in
+    let Q : Longest → Type 0 = λ w. Shown chosen_table chosen_means chosen_means s w a.machine text in
     record { sound = ap (λ (x : List ℕ). refusal_of s (length x)) (sym e) ∙ h.0; first = a.machine; assembled = subst P e h.1; run = subst Q h.2 run }

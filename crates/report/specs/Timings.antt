@@ -1,12 +1,11 @@
 -- What is printed of a set-up and an image, from the input to the last line. Assumes nothing.
-use Rattle.std.specs.Prelude.{◌≡◌, ℕ, ◌-◌, ◌<◌, ◌≤◌, Bool, true, false, cond, ◌&&◌, ◌⊎◌, List, [], ◌++◌, length, replicate, Some, None, Ok, Err, vec_items, vec_len, string_bytes, Option, Result, Vec, String}
+use Rattle.std.specs.Prelude.{◌≡◌, ℕ, ◌-◌, ◌<◌, ◌≤◌, Bool, true, false, cond, ◌&&◌, ◌⊎◌, List, [], ◌++◌, length, replicate, Some, None, Ok, Err, vec_items, string_bytes, Option, Result, Vec, String}
 use Rattle.std.specs.declared.alloc.Global.{Global}
 use Rattle.base.specs.Refusals.{number}
 use Rattle.base.specs.declared.failure.Failure.{Failure}
 use Rattle.base.specs.declared.failure.Failure.TheVariants.{Refused, OutOfMemory}
 use Rattle.memory.specs.Flat.{flat_fits}
 use Rattle.memory.specs.Meaning.{Meaning}
-use Rattle.memory.specs.declared.flat.Flat.{Flat}
 use Rattle.predictor.specs.declared.backward.Backward.{Backward}
 use Rattle.predictor.specs.declared.bimodal.Bimodal.{Bimodal}
 use Rattle.predictor.specs.declared.gshare.Gshare.{Gshare}
@@ -24,11 +23,8 @@ use Rattle.longrun.specs.Gaps.{none_yet, gaps_after}
 use Rattle.longrun.specs.declared.gaps.Gaps.{Gaps}
 use Rattle.setup.specs.declared.choice.Setup.{Setup}
 use Rattle.setup.specs.declared.choice.StackChoice.{StackChoice}
-use Rattle.choice.specs.Boxes.{inside, boxed_means}
 use Rattle.choice.specs.Predictors.{chosen_table, chosen_fresh}
-use Rattle.choice.specs.Stacks.{stack_means, stack_wait, layers_fit, stack_fits, Built}
-use Rattle.choice.specs.declared.boxed.Boxed.{Boxed}
-use Rattle.choice.specs.declared.layer.Layer.{Layer}
+use Rattle.choice.specs.Stacks.{stack_wait, layers_fit, ChosenMemory, chosen_means, Chosen as ChosenFor}
 use Rattle.choice.specs.declared.predictors.Chosen.{Chosen}
 use Rattle.choice.specs.declared.predictors.Simple.{Simple}
 use Rattle.report.specs.Finishing.{Finished}
@@ -61,38 +57,32 @@ pub record Shown {P I D : Type 0} (table : Table P) (instructions : Meaning I) (
 
 -- ---- the machine of a set-up
 
-abbrev pub Stack : Type 0
-Stack = Boxed (Layer (Layer (Layer Flat)))
-
-abbrev pub means : Meaning Stack
-means = boxed_means stack_means
-
 abbrev pub Alone : Type 0
 Alone = Simple Never Backward Bimodal Gshare
 
 abbrev pub Guesser : Type 0
 Guesser = Chosen Alone (Tournament Alone Alone)
 
--- a stack over a flat memory of those bytes
-pub record Stacked (choice : StackChoice) (bytes : List ℕ) (s : Stack) : Type 0 where
+-- the chosen memory of those bytes
+pub record OfBytes (choice : StackChoice) (bytes : List ℕ) (m : ChosenMemory) : Type 0 where
   pub vector : Vec ℕ Global
   pub holds : vec_items vector ≡ bytes
-  pub built : Built vector choice (inside s)
+  pub chosen : ChosenFor vector choice m
 
 -- the longest waits that the chosen memories state
 abbrev pub longest_of : Setup → Longest
 longest_of s = record { instructions = stack_wait s.instructions; «data» = stack_wait s.«data» }
 
 -- the machine is loaded with the chosen parts: the image, zero bytes of data and a fresh predictor
-pub record Assembled (s : Setup) (image : List ℕ) (m : Machine Guesser Stack Stack) : Type 0 where
+pub record Assembled (s : Setup) (image : List ℕ) (m : Machine Guesser ChosenMemory ChosenMemory) : Type 0 where
   pub predictor : Guesser
-  pub instructions : Stack
-  pub words : Stack
+  pub instructions : ChosenMemory
+  pub words : ChosenMemory
   pub guesses : chosen_table predictor ≡ chosen_fresh s.predictor
-  pub image_stacked : Stacked s.instructions image instructions
-  pub data_stacked : Stacked s.«data» (replicate s.data_size 0) words
-  pub loaded : Loaded (means.view.size instructions) 0 s.start predictor instructions words m
-  pub agrees : Agrees chosen_table means means m
+  pub image_so : OfBytes s.instructions image instructions
+  pub data_so : OfBytes s.«data» (replicate s.data_size 0) words
+  pub loaded : Loaded (chosen_means.view.size instructions) 0 s.start predictor instructions words m
+  pub agrees : Agrees chosen_table chosen_means chosen_means m
 
 -- what a check refuses of a set-up for an image of that size, tested in this order: a layer over the instructions, the number of data bytes, a layer over the data, the start
 abbrev pub refusal_of : Setup → ℕ → Option ℕ
@@ -100,19 +90,13 @@ refusal_of s size =
     cond (layers_fit s.instructions)
     (cond (flat_fits s.data_size) (cond (layers_fit s.«data») (cond (load_fits 0 size s.start) None (Some 3)) (Some 2)) (Some 1)) (Some 2)
 
--- the chosen stack over these bytes, or its refusal
-abbrev pub StackAnswer : Vec ℕ Global → StackChoice → Result Stack Failure → Type 0
-StackAnswer bytes choice (Ok s) = Built bytes choice (inside s)
-StackAnswer bytes choice (Err (Refused why)) = (number why ≡ cond (flat_fits (vec_len bytes)) 2 1) × (stack_fits bytes choice ≡ false)
-StackAnswer bytes choice (Err (OutOfMemory error)) = Unit {0}
-
 -- the data memory, or the first of its two refusals
-abbrev pub DataAnswer : Setup → Result Stack Failure → Type 0
-DataAnswer s (Ok m) = (flat_fits s.data_size ≡ true) × (layers_fit s.«data» ≡ true) × Stacked s.«data» (replicate s.data_size 0) m
+abbrev pub DataAnswer : Setup → Result ChosenMemory Failure → Type 0
+DataAnswer s (Ok m) = (flat_fits s.data_size ≡ true) × (layers_fit s.«data» ≡ true) × OfBytes s.«data» (replicate s.data_size 0) m
 DataAnswer s (Err (Refused why)) = (number why ≡ cond (flat_fits s.data_size) 2 1) × (flat_fits s.data_size && layers_fit s.«data» ≡ false)
 DataAnswer s (Err (OutOfMemory error)) = Unit {0}
 
-abbrev pub AssemblyAnswer : Setup → List ℕ → Result (Assembly Guesser Stack Stack) Failure → Type 0
+abbrev pub AssemblyAnswer : Setup → List ℕ → Result (Assembly Guesser ChosenMemory ChosenMemory) Failure → Type 0
 AssemblyAnswer s image (Ok a) = (refusal_of s (length image) ≡ None) × Assembled s image a.machine × (a.longest ≡ longest_of s)
 AssemblyAnswer s image (Err (Refused why)) = refusal_of s (length image) ≡ Some (number why)
 AssemblyAnswer s image (Err (OutOfMemory error)) = Unit {0}
@@ -122,9 +106,9 @@ AssemblyAnswer s image (Err (OutOfMemory error)) = Unit {0}
 -- the text is that of the run that the set-up asks for
 pub record Timed (s : Setup) (image text : List ℕ) : Type 0 where
   pub sound : refusal_of s (length image) ≡ None
-  pub first : Machine Guesser Stack Stack
+  pub first : Machine Guesser ChosenMemory ChosenMemory
   pub assembled : Assembled s image first
-  pub run : Shown chosen_table means means s (longest_of s) first text
+  pub run : Shown chosen_table chosen_means chosen_means s (longest_of s) first text
 
 -- an image is padded with zeros
 abbrev pub padded_image : List ℕ → List ℕ

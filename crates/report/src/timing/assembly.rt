@@ -1,16 +1,15 @@
 //! The machine of a set-up.
-ghost use Rattle.report.specs.Timings.{StackAnswer, DataAnswer, AssemblyAnswer};
+ghost use Rattle.report.specs.Timings.{DataAnswer, AssemblyAnswer};
 
 use crate::lines::Longest;
 use base::failure::Failure;
-use choice::boxed::Boxed;
 use choice::predictors::Chosen;
-use choice::stack::{Stack, build};
+use choice::stack::{ChosenMemory, choose};
 use listing::image::PaddedImage;
 use memory::{Flat, Memory};
 use pipeline::machine::{Machine, check, load};
 use predictor::Predictor;
-use setup::choice::{Setup, StackChoice};
+use setup::choice::Setup;
 use std::alloc::Global;
 
 /// A machine that is loaded, and the longest waits of its memories.
@@ -20,35 +19,27 @@ pub(crate) struct Assembly<P: Predictor, I: Memory, D: Memory> {
     pub longest: Longest,
 }
 
-/// The chosen stack over these bytes.
-fn stacked(heap: Global, bytes: Vec<u8>, choice: StackChoice) -> Result<Boxed<Stack>, Failure>
-    ensures { StackAnswer bytes choice result }
-{
-    let stack = build(bytes, choice)?;
-    Ok(Boxed::new(heap, stack)?)
-}
-
-/// The chosen stack over zero bytes of data.
+/// The chosen memory of zero bytes of data.
 #[tactic(auto, using(crate::proofs::Refusing::data_answer))]
-fn data_memory(heap: Global, setup: &Setup) -> Result<Boxed<Stack>, Failure>
+fn data_memory(heap: Global, setup: &Setup) -> Result<ChosenMemory, Failure>
     ensures { DataAnswer setup.now result }
 {
     let size = setup.data_size as usize;
     Flat::check(size)?;
     let zeros = vec![in heap; 0u8; size]?;
-    stacked(heap, zeros, setup.data)
+    choose(heap, zeros, setup.data)
 }
 
-/// Loads a machine with the chosen predictor and stacks, over an image and zero bytes of data.
+/// Loads a machine with the chosen predictor and memories, of an image and of zero bytes of data.
 #[tactic(auto, using(crate::proofs::Refusing::data_refused_by))]
 pub(crate) fn assemble(
     heap: Global,
     setup: &Setup,
     image: PaddedImage,
-) -> Result<Assembly<Chosen, Boxed<Stack>, Boxed<Stack>>, Failure>
+) -> Result<Assembly<Chosen, ChosenMemory, ChosenMemory>, Failure>
     ensures { AssemblyAnswer setup.now image.bytes.items result }
 {
-    let instructions = stacked(heap, image.into_bytes(), setup.instructions)?;
+    let instructions = choose(heap, image.into_bytes(), setup.instructions)?;
     let data = data_memory(heap, setup)?;
     check(0, setup.start, &instructions)?;
     let longest = Longest {

@@ -4,8 +4,7 @@
 ghost use Rattle.std.specs.Prelude.{◌≡◌, ◌<◌, None};
 ghost use Rattle.clocking.specs.Clock.{Moved, Halted};
 ghost use Rattle.clocking.specs.Counting.{Counted};
-ghost use Rattle.clocking.specs.Stages.{decode_stage, values_in_flight, x_result};
-ghost use Rattle.cycle.specs.Cycles.{Cycles};
+ghost use Rattle.cycle.specs.Cycles.{Cycles, decoded, with_x};
 
 use clocking::counts::Counts;
 use clocking::latch::{Completed, Executed, Latch, Latches};
@@ -64,8 +63,8 @@ fn decode<'a>(
     registers: &'a Registers,
     latches: &'a mut Latches,
 ) -> Flow
-    ensures latches { latches.new ≡ record { f = latches.old.f; d = latches.old.d; x = (decode_stage (values_in_flight (x_result completes latches.old.m) m.now latches.old.w w.now registers.now) latches.old.x latches.old.d executes).x; m = latches.old.m; w = latches.old.w } }
-    ensures flow { result ≡ (decode_stage (values_in_flight (x_result completes latches.old.m) m.now latches.old.w w.now registers.now) latches.old.x latches.old.d executes).flow }
+    ensures latches { latches.new ≡ with_x latches.old (decoded completes executes m.now w.now registers.now latches.old).x }
+    ensures flow { result ≡ (decoded completes executes m.now w.now registers.now latches.old).flow }
 {
     let in_flight = InFlight {
         flow: completes,

@@ -8,7 +8,7 @@ use rv32i::cause::Cause;
 use sequential::record::Stop;
 
 /// What became of X; after a wrong guess, where fetching has to go on.
-#[derive(Clone, Copy, PartialEq, Eq, Debug)]
+#[derive(Clone, Copy)]
 pub struct Executing {
     pub flow: Flow,
     pub redirect: Option<u32>,

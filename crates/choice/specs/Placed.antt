@@ -8,6 +8,7 @@ use Rattle.choice.specs.declared.placed.Placed.{Placed}
 use Rattle.choice.specs.declared.placed.Placed.TheVariants.{Here, OnHeap}
 
 module _ {M : Type 0} where
+  -- what is on the heap means what it means elsewhere
   abbrev pub boxed_view : View M → View (Box M)
   boxed_view v = record { size = λ b. v.size (box_value b); byte = λ b. v.byte (box_value b); waits = λ b. v.waits (box_value b); longest = λ b. v.longest (box_value b) }
 
@@ -15,6 +16,7 @@ module _ {M : Type 0} where
   boxed_means m = record { view = boxed_view m.view; serves = λ b q r c. m.serves (box_value b) q r (box_value c); idles = λ b c. m.idles (box_value b) (box_value c) }
 
 module _ {N M : Type 0} where
+  -- what can be seen of it
   abbrev pub placed_size : View N → View M → Placed N M → ℕ
   placed_size u v (Here n) = u.size n
   placed_size u v (OnHeap b) = (boxed_view v).size b
@@ -47,6 +49,7 @@ module _ {N M : Type 0} where
   PlacedIdles l m (OnHeap b) (Here k) = ⊥
   PlacedIdles l m (OnHeap b) (OnHeap c) = (boxed_means m).idles b c
 
+  -- it is that memory, on the heap
   abbrev pub IsOnHeap : M → Placed N M → Type 0
   IsOnHeap m (Here n) = ⊥
   IsOnHeap m (OnHeap b) = box_value b ≡ m

@@ -1,5 +1,5 @@
 -- Stacks of memories that are chosen at run time, and the memory that is asked then. Assumes nothing.
-use Rattle.std.specs.Prelude.{◌≡◌, ℕ, ◌%◌, Bool, true, false, cond, ◌&&◌, None, Ok, Err, box_value, vec_items, vec_len, Result, Vec, slice_index}
+use Rattle.std.specs.Prelude.{◌≡◌, ℕ, ◌%◌, Bool, true, false, cond, ◌&&◌, ◌||◌, is_some, Ok, Err, box_value, vec_items, vec_len, Result, Vec, slice_index}
 use Rattle.std.specs.declared.alloc.Global.{Global}
 use Rattle.base.specs.Refusals.{number, Says}
 use Rattle.base.specs.declared.failure.Failure.{Failure}
@@ -67,9 +67,14 @@ ChosenMemory = Placed Flat (Layer (Layer (Layer Flat)))
 abbrev pub chosen_means : Meaning ChosenMemory
 chosen_means = placed_means flat_means stack_means
 
+-- whether any layer is chosen
+abbrev pub has_layers : StackChoice → Bool
+has_layers choice = is_some choice.top || (is_some choice.middle || is_some choice.bottom)
+
+-- what it is made of: without a layer the bytes, else the layers over them
 abbrev pub MadeOf : Vec ℕ Global → StackChoice → ChosenMemory → Type 0
-MadeOf bytes choice (Here f) = (choice ≡ record { top = None; middle = None; bottom = None }) × (f.bytes ≡ bytes) × (f.size ≡ vec_len bytes)
-MadeOf bytes choice (OnHeap b) = Built bytes choice (box_value b)
+MadeOf bytes choice (Here f) = (has_layers choice ≡ false) × (f.bytes ≡ bytes) × (f.size ≡ vec_len bytes)
+MadeOf bytes choice (OnHeap b) = (has_layers choice ≡ true) × Built bytes choice (box_value b)
 
 -- The chosen memory, where it fits: all the bytes can be seen, and its longest wait is known.
 pub record Chosen (bytes : Vec ℕ Global) (choice : StackChoice) (m : ChosenMemory) : Type 0 where

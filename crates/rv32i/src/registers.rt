@@ -9,7 +9,6 @@ use std::marker::Model;
 
 impl Register {
     /// The register of that number; refused above 31.
-    // A constructor that may refuse: a TryFrom would only hide its name.
     pub fn new(number: u32) -> Result<Register, Refusal>
         ensures { Says (λ x. (number < 32) × (x.number ≡ number)) (λ why. (why ≡ 9) × (32 ≤ number)) result }
     {

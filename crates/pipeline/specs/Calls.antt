@@ -31,7 +31,7 @@ pub record Loaded {P I D : Type 0} (size serial start : ℕ) (p : P) (i : I) (d 
   pub serial_so : m.serial ≡ cond (nat_le serial 65535) serial 0
   pub not_held : m.held ≡ false
   pub latches_so : m.core.latches ≡ record { f = cond (start_fits size start) start 0; d = Empty; x = Empty; m = Empty; w = Empty }
-  pub registers_so : m.core.registers.values ≡ replicate 32 0
+  pub registers_so : m.core.registers ≡ replicate 32 0
   pub not_stopped : m.core.stopped ≡ None
   pub no_clocks : m.core.counts.clocks ≡ 0
   pub none_fetched : m.core.counts.fetched ≡ 0

@@ -1,5 +1,5 @@
 //! The machine that runs.
-ghost use Rattle.std.specs.Prelude.{◌≡◌, ◌%◌, ◌<◌, ◌≤◌, replicate, None, slice_index};
+ghost use Rattle.std.specs.Prelude.{◌≡◌, ◌%◌, ◌<◌, ◌≤◌, replicate, None};
 ghost use Rattle.memory.specs.Meaning.{Same, ByteRead};
 ghost use Rattle.rv32i.specs.Registers.{RegisterRead};
 ghost use Rattle.rv32i.specs.Effects.{request};
@@ -29,7 +29,7 @@ impl<I: Memory, D: Memory> Machine<I, D> {
     /// At the start address, with zero registers.
     pub fn new(start: u32, image: I, data: D) -> Machine<I, D>
         ensures address { result.address ≡ start }
-        ensures registers { result.registers.values ≡ replicate 32 0 }
+        ensures registers { result.registers ≡ replicate 32 0 }
         ensures memories { (result.image ≡ image) × (result.«data» ≡ «data») }
         ensures stopped { result.stopped ≡ None }
     {
@@ -119,7 +119,6 @@ impl<I: Memory, D: Memory> Machine<I, D> {
         ensures does { Stepped (world_of I.Memory.means.view D.Memory.means.view self.old) (state_of D.Memory.means.view self.old) self.old.stopped result (state_of D.Memory.means.view self.new) self.new.stopped }
         ensures world { world_of I.Memory.means.view D.Memory.means.view self.new ≡ world_of I.Memory.means.view D.Memory.means.view self.old }
         ensures aligned { self.old.address % 4 ≡ 0 → self.new.address % 4 ≡ 0 }
-        ensures zero { slice_index self.old.registers.values 0 ≡ 0 → slice_index self.new.registers.values 0 ≡ 0 }
     {
         // a stop is an answer, and no failure of what follows
         if let Some(stop) = self.stopped {
@@ -146,7 +145,7 @@ impl<I: Memory, D: Memory> Machine<I, D> {
         self.address
     }
 
-    /// The value of a register; refused above 31.
+    /// The value of a register, 0 for x0; refused above 31.
     pub fn register(&self, number: u32) -> Result<u32, Refusal>
         ensures { RegisterRead self.now.registers number result }
     {

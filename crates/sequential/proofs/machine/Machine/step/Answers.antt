@@ -13,5 +13,6 @@ returns-in-Ok g c =
     record {
       does = does;
       world = search rules;
+      for_good = search rules;
       aligned = stepped_keeps world (state_of bytes m) (state_of bytes n) m.stopped n.stopped (Ok c.in-Ok.retirement) does;
     }

@@ -5,6 +5,5 @@ pub returns-clause-does : goal.returns-clause-does
 returns-clause-does g c =
     let cycles = rw c.unwrap.ensures at c.checked_cycle.ensures in (
       c.unwrap.result ∷ [],
-      (c.in_ok-ready.ensures, (c.unwrap.result, refl, record { same_serial = refl; same_held = refl; cycled = cycles.2 })),
-      c.record.ensures.adds,
+      (c.in_ok-ready.ensures, (c.unwrap.result, refl, record { same_serial = refl; same_held = refl; cycled = cycles.2 }), c.record.ensures.adds),
     )

@@ -1,14 +1,13 @@
 -- Every clock keeps the laws. Assumes nothing.
-use Rattle.std.proofs.Common.{◌≡◌, ℕ, ◌+◌, ◌%◌, ◌^◌, Bool, true, false, cond, not, ◌&&◌, ◌||◌, eqb, ltb, List, [], ◌∷◌, ◌++◌, length, is_some, Some, None, Ok, Err, Option, Result, sym, refl, subst, ap, ◌∙◌, append_assoc, arith}
+use Rattle.std.proofs.Common.{◌≡◌, ℕ, ◌+◌, ◌%◌, ◌^◌, Bool, true, false, cond, not, ◌&&◌, ◌||◌, eqb, ltb, List, ◌∷◌, ◌++◌, length, is_some, Some, None, Ok, Err, Option, Result, sym, refl, subst, ap, ◌∙◌, append_assoc, arith}
 use Rattle.std.proofs.lemmas.Bool.{false≢true, true≢false}
 use Rattle.base.specs.Bytes.{within}
-use Rattle.base.specs.declared.branch.Outcome.{Outcome}
 use Rattle.base.specs.declared.bus.Request.{Request}
 use Rattle.base.specs.declared.bus.Request.TheVariants.{Read}
 use Rattle.memory.specs.Meaning.{Meaning, Reply}
 use Rattle.memory.specs.declared.Answer.TheVariants.{Word, Done}
 use Rattle.memory.specs.declared.Unserved.TheVariants.{Wait, Outside}
-use Rattle.rv32i.specs.Effects.{following, offset_from}
+use Rattle.rv32i.specs.Effects.{following}
 use Rattle.rv32i.specs.Targets.{target_of}
 use Rattle.rv32i.specs.declared.cause.Cause.{Cause}
 use Rattle.rv32i.specs.declared.cause.Cause.TheVariants.{JumpMisaligned, FetchOutside}
@@ -21,8 +20,8 @@ use Rattle.words.specs.Words.{decoded}
 use Rattle.sequential.specs.declared.record.Stop.{Stop}
 use Rattle.clocking.specs.Clock.{stop_of, retirement_of, completes, executes, reads, decodes, plans, fetches, latches_after, move_notes, Moved, Halted, Worked, Cycled}
 use Rattle.clocking.specs.Counting.{has_fetched, dropped, one_if, Counted, is_wait, stays, moves, rolls_back}
-use Rattle.clocking.specs.Laws.{is_held, x_writes, x_loads, x_value, m_writes, m_value, w_writes, w_value, at_w, at_m, at_x, at_d, flight, m_is_refused, m_request, m_asks, x_is_misguessed, x_next, rolls_by_data, rolls_by_execute, rolls, x_stays, x_is_free, is_missing, is_short, stalls, d_stays, d_is_free, f_asks, removed, forwarded, in_x, Decoding, guess_after, Fetching, Flight, GoingOn, Ending, Held, ClockLaws}
-use Rattle.clocking.specs.Ports.{Table, Asked, guess_by, guess_after as guessed_after, arrival}
+use Rattle.clocking.specs.Laws.{is_held, x_writes, x_loads, x_value, m_writes, m_value, w_writes, w_value, at_w, at_m, at_x, at_d, flight, m_is_refused, x_is_misguessed, x_next, rolls_by_data, rolls_by_execute, rolls, is_missing, is_short, stalls, d_stays, d_is_free, f_asks, removed, forwarded, in_x, Decoding, guess_of, Fetching, Flight, GoingOn, Ending, Held, ClockLaws}
+use Rattle.clocking.specs.Ports.{Table, Asked, guess_after, arrival}
 use Rattle.clocking.specs.Stages.{DecodeOut, FetchOut, data_request, sent, decode_moves, decode_stays, decode_stage, execute_stage, fetching, redirected, placed, fetches_on, fetch_stage, value_of}
 use Rattle.clocking.specs.declared.counts.Counts.{Counts}
 use Rattle.clocking.specs.declared.latch.Fetched.{Fetched}
@@ -36,7 +35,7 @@ use Rattle.clocking.specs.declared.stage.Flow.TheVariants.{Moves, Stays, RollsBa
 use Rattle.clocking.specs.declared.state.Core.{Core}
 use Rattle.clocking.specs.declared.state.Event.{Event}
 use Rattle.clocking.proofs.LawsFlow.{Heard, heard, asks_same, data_flow, data_flows, apart, m_reads, execute_flow, execute_flows, XReady, x_gives, redirects, decode_flow, youngest_of, w_reads, stuck, passed, moves_by}
-use Rattle.clocking.proofs.LawsFlight.{staying, left, data_line, execute_line, decode_line, new_if, new_either, new_length, From, fetch_line, in_line, splits, gone_length, d_length, x_length}
+use Rattle.clocking.proofs.LawsFlight.{left, data_line, execute_line, decode_line, new_if, new_either, new_length, From, fetch_line, in_line, goes_to_w, goes_to_m, splits, gone_length, d_length, x_length}
 
 -- ---- the flows, of tests. c: M has a cause; w: it is told to wait; h: X is held; g: its guess is wrong; i: D is held; z: it lacks an operand
 
@@ -224,7 +223,7 @@ placed_so text f d RollsBack x u h = absurd h
 placed_so text f d Stays x u h = absurd h
 placed_so text f d Moves x u h = on_placed f (fetching text f Moves) x h
 
-guesses : {P : Type 0} (table : Table P) (p : P) (f : ℕ) (o : Option Instruction) → guessed_after table p f (issues o) ≡ guess_after table p f o
+guesses : {P : Type 0} (table : Table P) (p : P) (f : ℕ) (o : Option Instruction) → guess_after table p f (issues o) ≡ guess_of table p f o
 unfolding target_of
 guesses table p f None = refl
 guesses table p f (Some (Lui d v)) = refl
@@ -241,7 +240,7 @@ guesses table p f (Some Fence) = refl
 guesses table p f (Some Ecall) = refl
 guesses table p f (Some Ebreak) = refl
 
-guess_so : {P : Type 0} (table : Table P) (p : P) (f w : ℕ) → guessed_after table p f (issued w) ≡ guess_after table p f (decoded w)
+guess_so : {P : Type 0} (table : Table P) (p : P) (f w : ℕ) → guess_after table p f (issued w) ≡ guess_of table p f (decoded w)
 unfolding issued
 guess_so table p f w = guesses table p f (decoded w)
 
@@ -422,6 +421,8 @@ module _ (size text : ℕ) (k : Latches) (g : Registers) (reply : Option Reply) 
         → Counted a (has_fetched (plans size text g k reply) x) retires (dropped k (completes size k reply).flow (executes size k reply).flow) b
         → Flight size k reply a next b
     flight_so i a b retires e q = record {
+      to_w = goes_to_w size k.m reply h;
+      to_m = ap (λ flow. at_m (execute_stage k.m k.x flow).m) one_flow ∙ goes_to_m c w k.m k.x exclusive;
       kept = kept;
       fetched = new_if k.f (has_fetched (plans size text g k reply) x);
       before = before_so;
@@ -445,7 +446,7 @@ module _ (size text : ℕ) (k : Latches) (g : Registers) (reply : Option Reply) 
 
     arrived_by : (v : ℕ) (r : Option Reply) → Heard (sent (plans size text g k reply)) r → r ≡ Some (Ok (Word v))
         → ((next (arrival table p k.f r)).d ≡ Full (record { address = k.f; word = v; issued = issued v; guess = (next (arrival table p k.f r)).f }))
-        × ((next (arrival table p k.f r)).f ≡ guess_after table p k.f (decoded v))
+        × ((next (arrival table p k.f r)).f ≡ guess_of table p k.f (decoded v))
     arrived_by v r l e =
         rw e
         (let q = placed_at (arrival table p k.f (Some (Ok (Word v)))) (Ok (Word v)) (subst (Heard (sent (plans size text g k reply))) e l) in (
@@ -453,7 +454,7 @@ module _ (size text : ℕ) (k : Latches) (g : Registers) (reply : Option Reply) 
           q.1 ∙ guess_so table p k.f v,
         ))
 
-    fetching_so : Fetching size k reply text (λ v. guess_after table p k.f (decoded v)) answer (next got)
+    fetching_so : Fetching size k reply text (λ v. guess_of table p k.f (decoded v)) answer (next got)
     fetching_so = record {
       data_rolls = rolled_by_data got;
       execute_rolls = rolled_by_execute got;
@@ -482,11 +483,12 @@ module _ {P I D : Type 0} (table : Table P) (instructions : Meaning I) (words : 
       record {
         reply = h.reply;
         answer = h.answer;
+        runs_on = h.runs_on;
         data_asked = subst (λ q. Asked words m.«data» q h.reply n.«data») (asks_same size k.m) h.data_asked;
         text_asked = subst (λ q. Asked instructions m.instructions q h.answer n.instructions) (sent_text size text k g h.reply asked) h.text_asked;
         decoding = subst (λ l. Decoding size k h.reply (value_of g) l.x) (sym h.latches_so) (decoding_so size text k g h.reply asked);
         fetching =
-            subst (λ l. Fetching size k h.reply text (λ w. guess_after table n.predictor k.f (decoded w)) h.answer l) (sym h.latches_so)
+            subst (λ l. Fetching size k h.reply text (λ w. guess_of table n.predictor k.f (decoded w)) h.answer l) (sym h.latches_so)
             (fetching_so size text k g h.reply asked table n.predictor h.answer planned);
         flights =
             subst (λ l. Flight size k h.reply m.counts l n.counts) (sym h.latches_so)

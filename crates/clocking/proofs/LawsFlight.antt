@@ -1,18 +1,19 @@
 -- What is in flight, from one clock to the next, latch by latch. Assumes nothing.
 use Rattle.std.proofs.Common.{◌≡◌, ℕ, ◌+◌, Bool, true, false, cond, not, ◌&&◌, ◌⊎◌, inl, inr, eqb, List, [], ◌∷◌, ◌++◌, length, Some, None, Ok, Err, Option, Result, sym, refl, ap, ◌∙◌, append_assoc, append-nil, arith, length-append}
+use Rattle.std.proofs.lemmas.Bool.{true≢false}
 use Rattle.base.specs.declared.bus.Request.{Request}
 use Rattle.memory.specs.Meaning.{Reply}
-use Rattle.memory.specs.declared.Answer.TheVariants.{Word}
-use Rattle.memory.specs.declared.Unserved.TheVariants.{Wait}
-use Rattle.rv32i.specs.Effects.{first_source, second_source}
+use Rattle.memory.specs.declared.Answer.TheVariants.{Word, Done}
+use Rattle.memory.specs.declared.Unserved.TheVariants.{Wait, Outside}
+use Rattle.rv32i.specs.Effects.{request, first_source, second_source}
 use Rattle.rv32i.specs.declared.cause.Cause.{Cause}
 use Rattle.rv32i.specs.declared.effect.Effect.{Effect}
 use Rattle.rv32i.specs.declared.instruction.Instruction.{Instruction}
 use Rattle.rv32i.specs.declared.register.Register.{Register}
 use Rattle.sequential.specs.Sequential.{then}
-use Rattle.clocking.specs.Counting.{occupied, has_fetched, if_rolled, one_if}
+use Rattle.clocking.specs.Counting.{is_wait, occupied, has_fetched, if_rolled, one_if}
 use Rattle.clocking.specs.Laws.{at_w, at_m, at_x, at_d, effect_of}
-use Rattle.clocking.specs.Stages.{ExecuteOut, DecodeOut, told, data_stage, ran, turned, checked, execute_stage, source, with_operands, decode_word, decode_stage, fetching, fetches_on, fetch_stage}
+use Rattle.clocking.specs.Stages.{ExecuteOut, DecodeOut, sent, data_request, told, data_stage, ran, turned, checked, execute_stage, source, with_operands, decode_word, decode_stage, fetching, fetches_on, fetch_stage}
 use Rattle.clocking.specs.declared.latch.Fetched.{Fetched}
 use Rattle.clocking.specs.declared.latch.Decoded.{Decoded}
 use Rattle.clocking.specs.declared.latch.Executed.{Executed}
@@ -20,7 +21,7 @@ use Rattle.clocking.specs.declared.latch.Latch.{Latch}
 use Rattle.clocking.specs.declared.latch.Latch.TheVariants.{Empty, Faulting, Full}
 use Rattle.clocking.specs.declared.stage.Flow.{Flow}
 use Rattle.clocking.specs.declared.stage.Flow.TheVariants.{Moves, Stays, RollsBack}
-use Rattle.clocking.proofs.LawsFlow.{data_flow, execute_flow}
+use Rattle.clocking.proofs.LawsFlow.{Heard, data_flow, execute_flow}
 
 -- what stays before a stage, and what a rollback leaves
 abbrev pub staying : Flow → List ℕ → List ℕ
@@ -39,6 +40,26 @@ told_line e o r = refl
 pub data_line : (m : Latch Executed) (o : Result (Option Request) Cause) (r : Option Reply) → at_w (data_stage m o r).w ++ staying (data_stage m o r).flow (at_m m) ≡ at_m m
 data_line (Full e) o r = told_line e o r
 data_line m o r = refl
+
+told_w : (e : Executed) (o : Result (Option Request) Cause) (r : Option Reply) → Heard (sent o) r → at_w (told e o r).w ≡ cond (is_wait r) [] (at_m (Full e))
+told_w e (Err c) None h = refl
+told_w e (Err c) (Some r) h = absurd h
+told_w e (Ok None) None h = refl
+told_w e (Ok None) (Some r) h = absurd h
+told_w e (Ok (Some q)) None h = absurd h
+told_w e (Ok (Some q)) (Some (Ok (Word w))) h = refl
+told_w e (Ok (Some q)) (Some (Ok Done)) h = refl
+told_w e (Ok (Some q)) (Some (Err Wait)) h = refl
+told_w e (Ok (Some q)) (Some (Err Outside)) h = refl
+
+-- M goes to W unless it waits
+pub goes_to_w : (size : ℕ) (m : Latch Executed) (r : Option Reply) → Heard (sent (data_request size m)) r
+    → at_w (data_stage m (data_request size m) r).w ≡ cond (is_wait r) [] (at_m m)
+goes_to_w size Empty None h = refl
+goes_to_w size Empty (Some r) h = absurd h
+goes_to_w size (Faulting stop) None h = refl
+goes_to_w size (Faulting stop) (Some r) h = absurd h
+goes_to_w size (Full e) r h = told_w e (request size e.access e.result e.b) r h
 
 abbrev Executes : Flow → Latch Executed → Latch Decoded → ExecuteOut → Type 0
 Executes flow m x o = at_m o.m ++ staying o.flow (at_x x) ≡ staying flow (at_m m) ++ left flow (at_x x)
@@ -59,6 +80,32 @@ execute_line Stays m (Full d) = refl
 execute_line Moves m Empty = refl
 execute_line Moves m (Faulting stop) = refl
 execute_line Moves m (Full d) = checked_line m d (effect_of d)
+
+turned_m : (d : Decoded) (e : Effect) (b : Bool) → at_m (turned (ran d e) b).m ≡ at_x (Full d)
+turned_m d e true = refl
+turned_m d e false = refl
+
+checked_m : (d : Decoded) (o : Result Effect Cause) → at_m (checked d.address d.guess (then o (λ e. Ok (ran d e)))).m ≡ at_x (Full d)
+checked_m d (Err c) = refl
+checked_m d (Ok e) = turned_m d e (eqb e.next d.guess)
+
+moves_to_m : (m : Latch Executed) (x : Latch Decoded) → at_m (execute_stage m x Moves).m ≡ at_x x
+moves_to_m m Empty = refl
+moves_to_m m (Faulting stop) = refl
+moves_to_m m (Full d) = checked_m d (effect_of d)
+
+waits_in_m : (m : Latch Executed) (x : Latch Decoded) → at_m (execute_stage m x Stays).m ≡ at_m m
+waits_in_m m Empty = refl
+waits_in_m m (Faulting stop) = refl
+waits_in_m m (Full d) = refl
+
+-- and X to M, unless M waits or has a cause
+pub goes_to_m : (c w : Bool) (m : Latch Executed) (x : Latch Decoded) → c && w ≡ false
+    → at_m (execute_stage m x (data_flow c w)).m ≡ cond w (at_m m) (cond c [] (at_x x))
+goes_to_m true true m x a = absurd (true≢false a)
+goes_to_m true false m x a = refl
+goes_to_m false true m x a = waits_in_m m x
+goes_to_m false false m x a = moves_to_m m x
 
 abbrev Decodes : Flow → Latch Decoded → Latch Fetched → DecodeOut → Type 0
 Decodes flow x d o = at_x o.x ++ staying o.flow (at_d d) ≡ staying flow (at_x x) ++ left flow (at_d d)

@@ -1,5 +1,5 @@
 -- What becomes of each latch in a clock, by what stands before it and by what the data memory replies. Assumes nothing.
-use Rattle.std.proofs.Common.{◌≡◌, ℕ, Bool, true, false, cond, not, ◌&&◌, ◌||◌, eqb, Some, None, Ok, Err, is_err, is_ok, Option, Result, sym, refl, subst, ap}
+use Rattle.std.proofs.Common.{◌≡◌, ℕ, Bool, true, false, cond, not, ◌&&◌, ◌||◌, eqb, Some, None, Ok, Err, is_err, is_ok, Option, Result, refl, ap}
 use Rattle.std.proofs.lemmas.Bool.{false≢true, true≢false}
 use Rattle.base.specs.declared.bus.Request.{Request}
 use Rattle.memory.specs.Meaning.{Meaning, Reply}
@@ -12,13 +12,11 @@ use Rattle.rv32i.specs.declared.effect.Access.TheVariants.{Load, Store}
 use Rattle.rv32i.specs.declared.effect.Effect.{Effect}
 use Rattle.rv32i.specs.declared.instruction.Instruction.{Instruction}
 use Rattle.rv32i.specs.declared.register.Register.{Register}
-use Rattle.rv32i.specs.declared.registers.Registers.{Registers}
 use Rattle.sequential.specs.Sequential.{then}
-use Rattle.clocking.specs.Clock.{completes, executes, reads, decodes}
 use Rattle.clocking.specs.Counting.{is_wait}
-use Rattle.clocking.specs.Laws.{is_held, m_is_refused, m_request, m_asks, m_writes, value_with, m_value, effect_of, result_of, next_of, leads_elsewhere, x_is_misguessed, x_next, x_writes, is_load, x_loads, x_value, w_writes, w_value, x_is_free, is_missing, lacks, lacks_any, is_short, forwarded, operand_of, read_for, in_x}
+use Rattle.clocking.specs.Laws.{is_held, m_is_refused, m_request, m_asks, m_writes, value_with, m_value, effect_of, result_of, next_of, leads_elsewhere, x_is_misguessed, x_next, x_writes, is_load, x_loads, x_value, w_writes, w_value, is_missing, lacks, lacks_any, is_short, forwarded, operand_of, read_for, in_x}
 use Rattle.clocking.specs.Ports.{Asked}
-use Rattle.clocking.specs.Stages.{DecodeOut, ExecuteOut, sent, data_request, told, data_stage, ran, turned, checked, execute_stage, x_result, gives, early, from_x, arrived, from_m, from_w, or_else, value_of, values_in_flight, source, with_operands, decode_word, decode_moves, decode_stays, decode_stage}
+use Rattle.clocking.specs.Stages.{DecodeOut, sent, data_request, told, data_stage, ran, turned, checked, execute_stage, x_result, gives, early, from_x, arrived, from_m, from_w, or_else, source, with_operands, decode_word, decode_moves}
 use Rattle.clocking.specs.declared.latch.Fetched.{Fetched}
 use Rattle.clocking.specs.declared.latch.Decoded.{Decoded}
 use Rattle.clocking.specs.declared.latch.Executed.{Executed}

@@ -144,6 +144,15 @@ abbrev pub x_value : Latch Decoded → ℕ
 x_value (Full d) = result_of (effect_of d)
 x_value x = 0
 
+-- ---- F
+
+-- where fetching goes on after an instruction at f, or after a word that is none
+abbrev pub guess_of : {P : Type 0} → Table P → P → ℕ → Option Instruction → ℕ
+guess_of table p f (Some (Jal rd z)) = offset_from f z
+guess_of table p f (Some (Branch how r q z)) =
+    if table p [] f (offset_from f z) then offset_from f z else following f
+guess_of table p f i = following f
+
 -- ---- a clock in which W does not stop the machine: the latches before it, and what the data memory replies
 
 module _ (size : ℕ) (k : Latches) (reply : Option Reply) where
@@ -242,65 +251,64 @@ module _ (size : ℕ) (k : Latches) (reply : Option Reply) where
       pub stalls_so : stalls ≡ true → x ≡ Empty
       pub moves : x_is_free ≡ true → is_short k.d ≡ false → x ≡ in_x k.d
 
--- where fetching goes on after an instruction at f, or after a word that is none
-abbrev pub guess_after : {P : Type 0} → Table P → P → ℕ → Option Instruction → ℕ
-guess_after table p f (Some (Jal rd z)) = offset_from f z
-guess_after table p f (Some (Branch how r q z)) =
-    if table p [] f (offset_from f z) then offset_from f z else following f
-guess_after table p f i = following f
-
-module _ (size : ℕ) (k : Latches) (reply : Option Reply) where
   -- D and F after the clock; text is the size of the instruction memory, and guess says where it goes on after a word
   pub record Fetching (text : ℕ) (guess : ℕ → ℕ) (answer : Option Reply) (n : Latches) : Type 0 where
-    pub data_rolls : rolls_by_data size k reply ≡ true → (n.d ≡ Empty) × (n.f ≡ k.f)
-    pub execute_rolls : rolls_by_execute size k reply ≡ true → (n.d ≡ Empty) × (n.f ≡ x_next k.x)
-    pub stays : d_stays size k reply ≡ true → (n.d ≡ k.d) × (n.f ≡ k.f)
-    pub misaligned : d_is_free size k reply ≡ true → (k.f % 4 == 0) ≡ false
+    pub data_rolls : rolls_by_data ≡ true → (n.d ≡ Empty) × (n.f ≡ k.f)
+    pub execute_rolls : rolls_by_execute ≡ true → (n.d ≡ Empty) × (n.f ≡ x_next k.x)
+    pub stays : d_stays ≡ true → (n.d ≡ k.d) × (n.f ≡ k.f)
+    pub misaligned : d_is_free ≡ true → (k.f % 4 == 0) ≡ false
         → (n.d ≡ Faulting (record { address = k.f; cause = JumpMisaligned })) × (n.f ≡ following k.f)
-    pub outside : d_is_free size k reply ≡ true → (k.f % 4 == 0) ≡ true → nat_lt k.f text ≡ false
+    pub outside : d_is_free ≡ true → (k.f % 4 == 0) ≡ true → nat_lt k.f text ≡ false
         → (n.d ≡ Faulting (record { address = k.f; cause = FetchOutside })) × (n.f ≡ following k.f)
     pub waits : is_wait answer ≡ true → (n.d ≡ Empty) × (n.f ≡ k.f)
     pub arrives : (w : ℕ) → answer ≡ Some (Ok (Word w))
         → (n.d ≡ Full (record { address = k.f; word = w; issued = issued w; guess = n.f }))
         × (n.f ≡ guess w)
 
-  -- What retires or is dropped is in flight no more, and what is fetched is in flight then. The rest stays so.
+  -- What retires or is dropped is in flight no more, and what is fetched is in flight then. The rest is so before and after,
+  -- and goes from M to W and from X to M unless M waits.
   pub record Flight (c : Counts) (n : Latches) (d : Counts) : Type 0 where
+    pub to_w : at_w n.w ≡ (if is_wait reply then [] else at_m k.m)
+    pub to_m : at_m n.m
+        ≡ (if is_wait reply then at_m k.m else (if rolls_by_data then [] else at_x k.x))
     pub kept : List ℕ
     pub fetched : List ℕ
-    pub before : flight k ≡ at_w k.w ++ (kept ++ removed size k reply)
+    pub before : flight k ≡ at_w k.w ++ (kept ++ removed)
     pub after : flight n ≡ kept ++ fetched
     pub fetches_at : (fetched ≡ []) ⊎ (fetched ≡ k.f ∷ [])
     pub retired_so : d.retired ≡ c.retired + length (at_w k.w)
-    pub dropped_so : d.dropped ≡ (c.dropped + length (removed size k reply)) % 2 ^ 32
+    pub dropped_so : d.dropped ≡ (c.dropped + length removed) % 2 ^ 32
     pub fetched_so : d.fetched ≡ c.fetched + length fetched
 
 -- ---- the laws of a clock
 
 module _ {P I D : Type 0} (table : Table P) (instructions : Meaning I) (words : Meaning D) where
+  abbrev pub text_size : Core P I D → ℕ
+  text_size m = instructions.view.size m.instructions
+
+  abbrev pub data_size : Core P I D → ℕ
+  data_size m = words.view.size m.«data»
+
   -- W does not stop the machine
   pub record GoingOn (m : Core P I D) (e : Event) (n : Core P I D) : Type 0 where
+    -- of the data memory and of the instruction memory
     pub reply : Option Reply
     pub answer : Option Reply
+    pub runs_on : n.stopped ≡ None
     pub data_asked : Asked words m.«data»
-        (m_asks (m_request (words.view.size m.«data») m.latches.m))
-        reply n.«data»
+        (m_asks (m_request (data_size m) m.latches.m)) reply n.«data»
     pub text_asked : Asked instructions m.instructions
-        (f_asks (words.view.size m.«data») m.latches reply (instructions.view.size m.instructions))
-        answer n.instructions
-    pub decoding : Decoding (words.view.size m.«data») m.latches reply
-        (value_of n.registers) n.latches.x
-    pub fetching : Fetching (words.view.size m.«data») m.latches reply
-        (instructions.view.size m.instructions)
-        (λ w. guess_after table n.predictor m.latches.f (decoded w))
-        answer n.latches
-    pub flights : Flight (words.view.size m.«data») m.latches reply m.counts n.latches n.counts
+        (f_asks (data_size m) m.latches reply (text_size m)) answer n.instructions
+    pub decoding : Decoding (data_size m) m.latches reply (value_of n.registers) n.latches.x
+    pub fetching : Fetching (data_size m) m.latches reply (text_size m)
+        (λ w. guess_of table n.predictor m.latches.f (decoded w)) answer n.latches
+    pub flights : Flight (data_size m) m.latches reply m.counts n.latches n.counts
     pub retires : is_some e.retirement ≡ is_held m.latches.w
     pub notes_so : e.clock.notes ≡ record {
       fetch_wait = is_wait answer;
-      hazard = stalls (words.view.size m.«data») m.latches reply;
+      hazard = stalls (data_size m) m.latches reply;
       data_wait = is_wait reply;
-      rollback = rolls (words.view.size m.«data») m.latches reply;
+      rollback = rolls (data_size m) m.latches reply;
       stop = false;
     }
 

@@ -1,5 +1,5 @@
 //! The machine that runs.
-ghost use Rattle.std.specs.Prelude.{◌≡◌, ◌%◌, ◌<◌, ◌≤◌, replicate, None, IsSome, slice_index};
+ghost use Rattle.std.specs.Prelude.{◌≡◌, ◌%◌, ◌<◌, ◌≤◌, replicate, None, IsSome};
 ghost use Rattle.memory.specs.Meaning.{Same, ByteRead};
 ghost use Rattle.rv32i.specs.Causes.{Gives};
 ghost use Rattle.rv32i.specs.Registers.{RegisterRead};
@@ -30,7 +30,7 @@ impl<I: Memory, D: Memory> Machine<I, D> {
     /// At the start address, with zero registers.
     pub fn new(start: u32, image: I, data: D) -> Machine<I, D>
         ensures address { result.address ≡ start }
-        ensures registers { result.registers.values ≡ replicate 32 0 }
+        ensures registers { result.registers ≡ replicate 32 0 }
         ensures memories { (result.image ≡ image) × (result.«data» ≡ «data») }
         ensures stopped { result.stopped ≡ None }
     {
@@ -120,7 +120,6 @@ impl<I: Memory, D: Memory> Machine<I, D> {
         ensures world { world_of I.Memory.means.view D.Memory.means.view self.new ≡ world_of I.Memory.means.view D.Memory.means.view self.old }
         ensures for_good { IsSome self.old.stopped → self.new ≡ self.old }
         ensures aligned { self.old.address % 4 ≡ 0 → self.new.address % 4 ≡ 0 }
-        ensures zero { slice_index self.old.registers.values 0 ≡ 0 → slice_index self.new.registers.values 0 ≡ 0 }
     {
         if let Some(stop) = self.stopped {
             return Err(stop);
@@ -145,7 +144,7 @@ impl<I: Memory, D: Memory> Machine<I, D> {
         self.address
     }
 
-    /// The value of a register; refused above 31.
+    /// The value of a register, 0 for x0; refused above 31.
     pub fn register(&self, number: u32) -> Result<u32, Refusal>
         ensures { RegisterRead self.now.registers number result }
     {

@@ -89,6 +89,8 @@ pub record Chosen (bytes : Vec ℕ Global) (choice : StackChoice) (m : ChosenMem
   pub byte : (x : ℕ) → chosen_means.view.byte m x ≡ slice_index (vec_items bytes) x % 256
   pub longest : chosen_means.view.longest m ≡ stack_wait choice
 
--- The answer to these bytes and this choice: the memory, or the refusal of the stack. There may be no room on the heap only where a layer is chosen.
+-- The answer to these bytes and this choice: the memory, or the refusal of the stack. There may be no room on the heap only where a layer is chosen and all of them fit.
 abbrev pub ChosenAnswer : Vec ℕ Global → StackChoice → Result ChosenMemory Failure → Type 0
-ChosenAnswer bytes choice = FailureSays (Chosen bytes choice) (Unfit bytes choice) (has_layers choice ≡ true)
+ChosenAnswer bytes choice =
+    FailureSays (Chosen bytes choice) (Unfit bytes choice)
+    ((has_layers choice ≡ true) × (stack_fits bytes choice ≡ true))

@@ -21,9 +21,10 @@ padded_image image = image ++ replicate (padded_size (length image) - length ima
 abbrev pub TooLong : List ℕ → ℕ → Type 0
 TooLong image why = (why ≡ 1) × (65536 < length image)
 
--- The answer to an image: it with the zeros, or number 1 above 65536 bytes. There may be no memory only where its vector has to grow for them.
+-- The answer to an image: it with the zeros, or number 1 above 65536 bytes. There may be no memory only where it is not refused and its vector has to grow for them.
 abbrev pub Padded : Vec ℕ Global → Result PaddedImage Failure → Type 0
 Padded image =
     FailureSays
     (λ p. (length (vec_items image) ≤ 65536) × (vec_items p.bytes ≡ padded_image (vec_items image)))
-    (TooLong (vec_items image)) (vec_capacity image < padded_size (length (vec_items image)))
+    (TooLong (vec_items image))
+    ((length (vec_items image) ≤ 65536) × (vec_capacity image < padded_size (length (vec_items image))))

@@ -1,5 +1,5 @@
 -- What is printed of a program from beginning to end. Assumes nothing.
-use Rattle.std.specs.Prelude.{◌≡◌, ℕ, ◌%◌, ◌≤◌, List, [], length, replicate, None, string_bytes, Option, Result, String, slice_index, ⊤}
+use Rattle.std.specs.Prelude.{◌≡◌, ℕ, ◌%◌, ◌≤◌, List, [], length, replicate, None, string_bytes, Option, Result, String, slice_index}
 use Rattle.std.specs.declared.alloc.Global.{Global}
 use Rattle.base.specs.Failures.{FailureSays}
 use Rattle.base.specs.declared.failure.Failure.{Failure}
@@ -26,8 +26,8 @@ pub record Printed (image text : List ℕ) : Type 0 where
   pub ran : Ran (world_for image) None begin 1000 [] stop last retired
   pub shown : text ≡ sequence_text retired stop
 
--- What the program answers to its input. There may be no memory for the text, whatever the input is.
+-- What the program answers to its input. There may be no memory only for an input that is not refused.
 abbrev pub Answered : List ℕ → Result (String Global) Failure → Type 0
 Answered input =
     FailureSays (λ text. (length input ≤ 65536) × Printed (padded_image input) (string_bytes text))
-    (TooLong input) ⊤
+    (TooLong input) (length input ≤ 65536)

@@ -21,7 +21,7 @@ data_answer s v (Ok m) f n z b =
     (f, (and_parts (flat_fits (vec_len v)) (layers_fit s.«data») b.fits).1, record { vector = v; holds = z; chosen = b })
 data_answer s v (Err (Refused why)) f n z h =
     (h.0 ∙ ap (λ (k : ℕ). if flat_fits k then 2 else 1) n, sym (ap (λ (k : ℕ). flat_fits k && layers_fit s.«data») n) ∙ h.1)
-data_answer s v (Err (OutOfMemory error)) f n z h = tt
+data_answer s v (Err (OutOfMemory error)) f n z h = f
 
 -- the first of two tests that fails
 first_failing : (f l : Bool) (x : Option ℕ) (n : ℕ) → n ≡ (if f then 2 else 1) → (f && l) ≡ false → (if not f then Some 1 else if not l then Some 2 else x) ≡ Some n
@@ -35,7 +35,7 @@ data_refused s image (Refused why) i h =
     let start = if not (load_fits 0 (length image) s.start) then Some 3 else None in
     let tests = if not (flat_fits s.data_size) then Some 1 else if not (layers_fit s.«data») then Some 2 else start in
     ap (λ (b : Bool). if not b then Some 2 else tests) i ∙ first_failing (flat_fits s.data_size) (layers_fit s.«data») start (number why) h.0 h.1
-data_refused s image (OutOfMemory error) i h = tt
+data_refused s image (OutOfMemory error) i h = i
 
 -- the same of what it is converted to
 pub data_refused_by : (s : Setup) (image : List ℕ) (e : Failure) (r : Result (Assembly Guesser ChosenMemory ChosenMemory) Failure) → is_err r ≡ true → IsErrAnd r (λ x. x ≡ e) → layers_fit s.instructions ≡ true → DataAnswer s (Err e)

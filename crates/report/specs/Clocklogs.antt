@@ -1,5 +1,5 @@
 -- What clocklog prints, from the input to the last line. Assumes nothing.
-use Rattle.std.specs.Prelude.{◌≡◌, ℕ, ◌≤◌, List, length, replicate, vec_items, string_bytes, Result, String, ⊤}
+use Rattle.std.specs.Prelude.{◌≡◌, ℕ, ◌≤◌, List, length, replicate, vec_items, string_bytes, Result, String}
 use Rattle.std.specs.declared.alloc.Global.{Global}
 use Rattle.base.specs.Failures.{FailureSays}
 use Rattle.base.specs.declared.failure.Failure.{Failure}
@@ -34,9 +34,9 @@ pub record ClockPrinted (image text : List ℕ) : Type 0 where
   pub finished : Finished 1000 last
   pub shown : text ≡ clock_table (retired_entries history) (clock_entries history) last.core.stopped (totals last)
 
--- What is answered to an input, which is padded with zeros. There may be no memory for the text, whatever the input is.
+-- What is answered to an input, which is padded with zeros. There may be no memory only for an input that is not refused.
 abbrev pub ClocklogAnswer : List ℕ → Result (String Global) Failure → Type 0
 ClocklogAnswer input =
     FailureSays
     (λ text. (length input ≤ 65536) × ClockPrinted (padded_image input) (string_bytes text))
-    (TooLong input) ⊤
+    (TooLong input) (length input ≤ 65536)

@@ -1,5 +1,5 @@
 -- What is printed of a set-up and an image, from the input to the last line. Assumes nothing.
-use Rattle.std.specs.Prelude.{◌≡◌, ℕ, ◌≤◌, Bool, true, false, if◌then◌else◌, not, ◌&&◌, ◌⊎◌, List, [], ◌++◌, length, replicate, Some, None, vec_items, string_bytes, Option, Result, Vec, String, ⊤}
+use Rattle.std.specs.Prelude.{◌≡◌, ℕ, ◌≤◌, Bool, true, false, if◌then◌else◌, not, ◌&&◌, ◌⊎◌, List, [], ◌++◌, length, replicate, Some, None, vec_items, string_bytes, Option, Result, Vec, String}
 use Rattle.std.specs.declared.alloc.Global.{Global}
 use Rattle.base.specs.Failures.{FailureSays}
 use Rattle.base.specs.declared.failure.Failure.{Failure}
@@ -92,26 +92,33 @@ refusal_of s size =
     else if not (load_fits 0 size s.start) then Some 3
     else None
 
--- The data memory, or the first of its two refusals. There may be no memory for the bytes.
-abbrev pub DataAnswer : Setup → Result ChosenMemory Failure → Type 0
-DataAnswer s =
-    FailureSays
-    (λ m.
+-- the data memory of a set-up whose two checks pass
+abbrev pub DataMade : Setup → ChosenMemory → Type 0
+DataMade s m =
     (flat_fits s.data_size ≡ true) × (layers_fit s.«data» ≡ true)
-    × OfBytes s.«data» (replicate s.data_size 0) m)
-    (λ why.
-    (why ≡ (if flat_fits s.data_size then 2 else 1))
-    × (flat_fits s.data_size && layers_fit s.«data» ≡ false))
-    ⊤
+    × OfBytes s.«data» (replicate s.data_size 0) m
 
--- The machine that is loaded, or the refusal of the set-up. There may be no memory for the data.
+-- the number of the first check that does not
+abbrev pub DataUnfit : Setup → ℕ → Type 0
+DataUnfit s why =
+    (why ≡ (if flat_fits s.data_size then 2 else 1))
+    × (flat_fits s.data_size && layers_fit s.«data» ≡ false)
+
+-- The data memory, or its refusal. There may be no memory only where a flat memory can have so many bytes.
+abbrev pub DataAnswer : Setup → Result ChosenMemory Failure → Type 0
+DataAnswer s = FailureSays (DataMade s) (DataUnfit s) (flat_fits s.data_size ≡ true)
+
+-- the loaded machine of a set-up that no check refuses, with the longest waits
+abbrev pub AssemblyMade : Setup → List ℕ → Assembly Guesser ChosenMemory ChosenMemory → Type 0
+AssemblyMade s image a =
+    (refusal_of s (length image) ≡ None) × Assembled s image a.machine
+    × (a.longest ≡ longest_of s)
+
+-- The loaded machine, or the refusal of the set-up. There may be no memory only where the layers over the instructions fit.
 abbrev pub AssemblyAnswer : Setup → List ℕ → Result (Assembly Guesser ChosenMemory ChosenMemory) Failure → Type 0
 AssemblyAnswer s image =
-    FailureSays
-    (λ a.
-    (refusal_of s (length image) ≡ None) × Assembled s image a.machine
-    × (a.longest ≡ longest_of s))
-    (λ why. refusal_of s (length image) ≡ Some why) ⊤
+    FailureSays (AssemblyMade s image) (λ why. refusal_of s (length image) ≡ Some why)
+    (layers_fit s.instructions ≡ true)
 
 -- ---- all of it
 
@@ -128,9 +135,9 @@ refused_by s input why =
     TooLong input why
     ⊎ ((length input ≤ 65536) × (refusal_of s (length (padded_image input)) ≡ Some why))
 
--- What is answered to a set-up and an input. There may be no memory for the text, whatever these are.
+-- What is answered to a set-up and an input. There may be no memory only for an input that is not refused.
 abbrev pub TimingAnswer : Setup → List ℕ → Result (String Global) Failure → Type 0
 TimingAnswer s input =
     FailureSays
     (λ text. (length input ≤ 65536) × Timed s (padded_image input) (string_bytes text))
-    (refused_by s input) ⊤
+    (refused_by s input) (length input ≤ 65536)

@@ -16,7 +16,7 @@ world_for image = record { text_size = length image; text = λ x. slice_index im
 
 -- at address 0, with zeros everywhere
 abbrev pub begin : State
-begin = record { address = 0; registers = record { values = replicate 32 0 }; bytes = λ _. 0 }
+begin = record { address = 0; registers = replicate 32 0; bytes = λ _. 0 }
 
 -- the text is that of a run of at most 1000 instructions
 pub record Printed (image text : List ℕ) : Type 0 where

@@ -10,7 +10,7 @@ use Rattle.predictor.specs.declared.never.Never.{Never}
 use Rattle.clocking.specs.declared.state.Event.{Event}
 use Rattle.pipeline.specs.Calls.{Loaded, retired_entries, clock_entries}
 use Rattle.pipeline.specs.Readings.{totals}
-use Rattle.pipeline.specs.Theorem.{Agrees, Calls}
+use Rattle.pipeline.specs.Theorem.{Agrees, Entries, Calls}
 use Rattle.pipeline.specs.declared.machine.Machine.{Machine}
 use Rattle.listing.specs.Images.{padded_image, TooLong}
 use Rattle.clocktable.specs.Tables.{clock_table}
@@ -29,8 +29,9 @@ pub record ClockPrinted (image text : List ℕ) : Type 0 where
   pub loaded : Loaded instructions.size 0 0 predictor instructions words first
   pub agrees : Agrees (λ _. never) flat_means flat_means first
   pub history : List Event
+  pub put : Entries
   pub last : Machine Never Flat Flat
-  pub calls : Calls (λ _. never) flat_means flat_means first history last
+  pub calls : Calls (λ _. never) flat_means flat_means first history put last
   pub finished : Finished 1000 last
   pub shown : text ≡ clock_table (retired_entries history) (clock_entries history) last.core.stopped (totals last)
 

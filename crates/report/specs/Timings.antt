@@ -14,7 +14,7 @@ use Rattle.clocking.specs.Ports.{Table}
 use Rattle.clocking.specs.declared.state.Event.{Event}
 use Rattle.pipeline.specs.Calls.{Loaded, load_fits, retired_entries, clock_entries}
 use Rattle.pipeline.specs.Readings.{totals}
-use Rattle.pipeline.specs.Theorem.{Agrees, Calls}
+use Rattle.pipeline.specs.Theorem.{Agrees, Entries, Calls}
 use Rattle.pipeline.specs.declared.machine.Machine.{Machine}
 use Rattle.listing.specs.Images.{padded_image, TooLong}
 use Rattle.clocktable.specs.Tables.{two_tables}
@@ -49,8 +49,9 @@ timing_text s w h m = tables_if s.log h ++ report_text s w (outcomes_of m (gaps_
 -- the text is that of a run of a machine that was just loaded
 pub record Shown {P I D : Type 0} (table : Table P) (instructions : Meaning I) (words : Meaning D) (s : Setup) (w : Longest) (first : Machine P I D) (text : List ℕ) : Type 0 where
   pub history : List Event
+  pub put : Entries
   pub last : Machine P I D
-  pub calls : Calls table instructions words first history last
+  pub calls : Calls table instructions words first history put last
   pub finished : first.held ≡ false → first.core.counts.clocks ≡ 0 → Finished s.clocks last
   pub shown : text ≡ timing_text s w history last
 

@@ -1,5 +1,5 @@
 -- What is printed of a program from beginning to end. Assumes nothing.
-use Rattle.std.specs.Prelude.{◌≡◌, ℕ, ◌-◌, ◌%◌, ◌<◌, ◌≤◌, List, [], ◌++◌, length, replicate, None, string_bytes, Option, Result, String, slice_index}
+use Rattle.std.specs.Prelude.{◌≡◌, ℕ, ◌%◌, ◌≤◌, List, [], length, replicate, None, string_bytes, Option, Result, String, slice_index}
 use Rattle.std.specs.declared.alloc.Global.{Global}
 use Rattle.base.specs.Failures.{FailureSays}
 use Rattle.base.specs.declared.failure.Failure.{Failure}
@@ -7,7 +7,7 @@ use Rattle.sequential.specs.Runs.{Ran}
 use Rattle.sequential.specs.Sequential.{State, World}
 use Rattle.sequential.specs.declared.record.Retired.{Retired}
 use Rattle.sequential.specs.declared.record.Stop.{Stop}
-use Rattle.listing.specs.Images.{padded_size}
+use Rattle.listing.specs.Images.{padded_image, TooLong}
 use Rattle.listing.specs.Sequences.{sequence_text}
 
 -- the bytes of an image, and 4096 bytes of data
@@ -26,8 +26,8 @@ pub record Printed (image text : List ℕ) : Type 0 where
   pub ran : Ran (world_for image) None begin 1000 [] stop last retired
   pub shown : text ≡ sequence_text retired stop
 
--- what the program answers to its input: what it prints of the padded image, or refusal 1 where the input is too long
+-- What the program answers to its input. There may be no memory only for an input that is not refused.
 abbrev pub Answered : List ℕ → Result (String Global) Failure → Type 0
-Answered input = FailureSays
-    (λ text. (length input ≤ 65536) × Printed (input ++ replicate (padded_size (length input) - length input) 0) (string_bytes text))
-    (λ why. (why ≡ 1) × (65536 < length input)) (Unit {0})
+Answered input =
+    FailureSays (λ text. (length input ≤ 65536) × Printed (padded_image input) (string_bytes text))
+    (TooLong input) (length input ≤ 65536)

@@ -6,6 +6,7 @@ use Rattle.base.specs.declared.refusal.Refusal.{Refusal}
 use Rattle.memory.specs.Meaning.{Meaning}
 use Rattle.sequential.specs.declared.record.Retirement.{Retirement}
 use Rattle.clocking.specs.Clock.{Cycled}
+use Rattle.clocking.specs.Laws.{ClockLaws}
 use Rattle.clocking.specs.Ports.{Table}
 use Rattle.clocking.specs.declared.state.ClockRecord.{ClockRecord}
 use Rattle.clocking.specs.declared.state.Event.{Event}
@@ -104,11 +105,12 @@ refusal l m =
     else 0)))
 
 module _ {P I D : Type 0} (table : Table P) (instructions : Meaning I) (words : Meaning D) where
-  -- an accepted clock of the machine
+  -- an accepted clock of the machine: it is what the rule has, and keeps the laws
   pub record Ticked (m : Machine P I D) (e : Event) (n : Machine P I D) : Type 0 where
     pub same_serial : n.serial ≡ m.serial
     pub same_held : n.held ≡ m.held
     pub cycled : Cycled table instructions words m.core e n.core
+    pub laws : ClockLaws table instructions words m.core e n.core
 
   abbrev pub OneClock : Machine P I D → List Event → Machine P I D → Type 0
   OneClock m es n = (e : Event) × (es ≡ e ∷ []) × Ticked m e n

@@ -7,6 +7,7 @@ use Rattle.clocking.specs.Ports.{Table}
 use Rattle.clocking.specs.declared.state.ClockRecord.{ClockRecord}
 use Rattle.clocking.specs.declared.state.Event.{Event}
 use Rattle.pipeline.specs.Calls.{Logs, retired_entries, clock_entries, Clocked, Ran, HoldCall, ReleaseCall}
+use Rattle.pipeline.specs.Pauses.{Paused}
 use Rattle.pipeline.specs.declared.machine.Machine.{Machine}
 use Rattle.pipeline.specs.declared.machine.Rejected.{Rejected}
 use Rattle.pipeline.specs.declared.machine.RetiredAt.{RetiredAt}
@@ -63,6 +64,11 @@ pub data Calls {P I D : Type 0} (table : Table P) (instructions : Meaning I) (wo
       (token : HoldToken) (answer : Result (Unit {0}) Rejected) (n : Machine P I D)
       → Calls table instructions words first h put m
       → ReleaseCall m token answer n
+      → Calls table instructions words first h put n
+  pause : {h : List Event} {put : Entries} {m : Machine P I D}
+      (answer : Result (Unit {0}) Refusal) (n : Machine P I D)
+      → Calls table instructions words first h put m
+      → Paused m answer n
       → Calls table instructions words first h put n
   reading : {h : List Event} {put : Entries} {m : Machine P I D}
       → Calls table instructions words first h put m

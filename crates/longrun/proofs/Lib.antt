@@ -1,2 +1,3 @@
 pub mod Following
+pub mod Marking
 pub mod Stretches

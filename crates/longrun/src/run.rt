@@ -1,6 +1,8 @@
 //! A run up to a number of clocks.
+ghost use Rattle.std.specs.Prelude.{◌≡◌, ℕ};
 ghost use Rattle.pipeline.specs.Calls.{empty_logs};
 ghost use Rattle.longrun.specs.LongRuns.{RanTo, Stretched};
+ghost use Rattle.longrun.specs.Tellings.{Watched};
 
 use crate::gaps::Gaps;
 use clocking::state::ClockRecord;
@@ -12,11 +14,14 @@ use predictor::Predictor;
 /// How many slots the logs of a long run have.
 const SLOTS: usize = 256;
 
-/// What is told now and then how far a run has come.
-// A trait and no closure: of a closure `run_to` would have to require that it may be called.
+/// Who is told now and then how far a run has come.
 pub trait Watch {
-    /// The clocks that were made so far.
-    fn made(&mut self, clocks: u32);
+    /// What it does to who watches, to be told a number of clocks.
+    ghost hears: { Self → ℕ → Self → Type 0 };
+
+    /// The clocks that the machine has made since it was loaded.
+    fn made(&mut self, clocks: u32)
+        ensures { hears self.old clocks self.new };
 }
 
 /// Nobody is told.
@@ -24,6 +29,8 @@ pub trait Watch {
 pub struct Unwatched;
 
 impl Watch for Unwatched {
+    ghost hears = { λ before _ after. after ≡ before };
+
     fn made(&mut self, _clocks: u32) {}
 }
 
@@ -46,15 +53,17 @@ fn stretch<P: Predictor, I: Memory, D: Memory>(
 }
 
 /// Clocks a machine until it has made so many, or has stopped, and notes the gaps between retirements. A machine that is held
-/// stays as it is.
+/// stays as it is. Who watches is told the machine's clocks after each 256 that are made here, and after the last.
 pub fn run_to<P: Predictor, I: Memory, D: Memory, W: Watch>(
     machine: &mut Machine<P, I, D>,
     limit: u32,
     gaps: &mut Gaps,
     watch: &mut W,
 )
-    ensures { RanTo P.Predictor.table I.Memory.means D.Memory.means
+    ensures ran { RanTo P.Predictor.table I.Memory.means D.Memory.means
         limit machine.old gaps.old machine.new gaps.new }
+    ensures told { Watched W.Watch.hears
+        machine.old.core.counts.clocks machine.new.core.counts.clocks watch.old watch.new }
 {
     // The slots are the caller's own, so they stand beside the journal that borrows them.
     let mut retired_slots = [RetiredAt::EMPTY; SLOTS];

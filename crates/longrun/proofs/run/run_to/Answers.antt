@@ -1,8 +1,9 @@
-use Rattle.std.proofs.Common.{◌≡◌, ◌<◌, ◌≤◌, false, [], refl, ap, ◌∙◌, arith, rules}
+use Rattle.std.proofs.Common.{◌≡◌, ◌+◌, ◌<◌, ◌≤◌, false, [], refl, sym, ap, ◌∙◌, true≢false, arith, rules}
 use Rattle.pipeline.specs.Calls.{is_stopped}
 use Rattle.pipeline.specs.Theorem.{no_entries, none}
 use Rattle.pipeline.specs.declared.machine.Totals.{Totals}
-use Rattle.longrun.proofs.Stretches.{unrefused, clocks_on, held_on, not_past, some_made, reached_on}
+use Rattle.longrun.proofs.Marking.{unmarked, marked_on}
+use Rattle.longrun.proofs.Stretches.{unrefused, room_after, clocks_events, clocks_on, held_on, not_past, some_made, stopped_short, reached_on}
 use Rattle.longrun.proofs.run.run_to.Given.{Over}
 use Rattle.longrun.proofs.run.run_to.Goals as goal
 
@@ -14,6 +15,10 @@ record Turn (g : Over) (c : goal.After-made g) : Type 0 where
   counted : c.counts-clocks-in-loop-clocks.result.clocks ≡ c.stretch.new.machine.core.counts.clocks
   further : c.loop-clocks.clocks < c.counts-clocks-in-loop-clocks.result.clocks
   not_beyond : c.counts-clocks-in-loop-clocks.result.clocks ≤ c.args.limit
+  -- as far as a mark, unless the run is over
+  few : c.stretch.new.machine.core.counts.clocks ≤ c.loop-clocks.machine.core.counts.clocks + 256
+  full : is_stopped c.stretch.new.machine ≡ false → c.stretch.new.machine.core.counts.clocks < c.args.limit
+      → c.stretch.new.machine.core.counts.clocks ≡ c.loop-clocks.machine.core.counts.clocks + 256
 
 turn : (g : Over) (c : goal.After-made g) → Turn g c
 turn g c =
@@ -31,11 +36,22 @@ turn g c =
     let free = unrefused c.loop-clocks.retired_slots c.loop-clocks.clock_slots m held running (omega arith) (omega arith) (omega arith) in
     let some = some_made table text words _ m c.min-n.result c.stretch.result s.events _ p s.ran free (omega arith) in
     let clocks = clocks_of c.counts-clocks-in-loop-clocks.ensures in
-    record { counted = clocks; further = omega arith; not_beyond = omega arith }
+    let events = clocks_events table text words _ m c.stretch.result.made s.events p s.ran.0 in
+    let whole : is_stopped p ≡ false → p.core.counts.clocks < c.args.limit → c.stretch.result.made < c.min-n.result → ⊥ =
+    λ go under short.
+        let room = room_after c.loop-clocks.retired_slots c.loop-clocks.clock_slots s.events c.min-n.result (omega arith) (omega arith) (omega arith) in
+        true≢false (sym (stopped_short table text words _ m c.min-n.result c.stretch.result s.events _ p s.ran held short room (omega arith)) ∙ go) in
+    record {
+      counted = clocks;
+      further = omega arith;
+      not_beyond = omega arith;
+      few = omega arith;
+      full = λ go under. let all = whole go under in omega arith;
+    }
 
 pub loop-clocks-init : goal.loop-clocks-init
 loop-clocks-init g c =
-    let clocks = clocks_of c.counts-clocks.ensures in (record { history = []; put = no_entries; calls = none; gaps_so = refl }, clocks, (λ h. omega arith), refl, refl, refl)
+    let clocks = clocks_of c.counts-clocks.ensures in (record { history = []; put = no_entries; calls = none; gaps_so = refl }, clocks, (λ h. omega arith), refl, refl, refl, unmarked g.W.Watch.hears c.args.limit c.args.machine.now.core.counts.clocks c.args.watch.now (is_stopped c.args.machine.now))
 
 pub loop-clocks-smaller : goal.loop-clocks-smaller
 loop-clocks-smaller g c = let t = turn g c in let f = t.further in let b = t.not_beyond in omega arith
@@ -44,11 +60,15 @@ pub loop-clocks-preserved : goal.loop-clocks-preserved
 loop-clocks-preserved g c =
     let inv = c.loop-clocks.invariant in
     let s = c.stretch.ensures in
-    let t = turn g c in (
+    let t = turn g c in
+    let running : is_stopped c.loop-clocks.machine ≡ false = search rules in
+    let further = t.further in
+    let counted = t.counted in (
       reached_on g.P.Predictor.table g.I.Memory.means g.D.Memory.means _ _ _ _ _ _ c.stretch.result _ _ inv.0 s,
       t.counted,
       (λ _. t.not_beyond),
       held_on g.P.Predictor.table g.I.Memory.means g.D.Memory.means _ c.loop-clocks.machine c.min-n.result c.stretch.result s.events _ c.stretch.new.machine s.ran ∙ inv.3,
       c.stretch.auto.retired_slots ∙ inv.4,
       c.stretch.auto.clock_slots ∙ inv.5,
+      marked_on g.W.Watch.hears c.args.limit _ _ _ _ _ _ _ _ inv.6 running (omega arith) (omega arith) t.few t.full (rw t.counted at c.made.ensures),
     )

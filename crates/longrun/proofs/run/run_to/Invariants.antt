@@ -1,5 +1,7 @@
 use Rattle.std.proofs.Common.{◌≡◌, ◌-◌, ◌≤◌, length}
+use Rattle.pipeline.specs.Calls.{is_stopped}
 use Rattle.longrun.specs.LongRuns.{Reached}
+use Rattle.longrun.proofs.Marking.{Marked}
 use Rattle.longrun.proofs.run.run_to.Given as goal
 
 abbrev pub invariant-loop-clocks : goal.invariant-loop-clocks
@@ -10,6 +12,7 @@ invariant-loop-clocks g l =
     × (l.machine.held ≡ l.initial.machine.held)
     × (length l.retired_slots ≡ 256)
     × (length l.clock_slots ≡ 256)
+    × Marked g.W.Watch.hears l.limit l.initial.machine.core.counts.clocks l.machine.core.counts.clocks (is_stopped l.machine) l.initial.watch l.watch
 
 abbrev pub decreases-loop-clocks : goal.decreases-loop-clocks
 decreases-loop-clocks g l = l.limit - l.clocks

@@ -1,4 +1,5 @@
 pub mod Clocklogs
+pub mod Endings
 pub mod Finishing
 pub mod Lines
 pub mod Timings

@@ -2,5 +2,6 @@
 #![tactic(auto)]
 
 pub mod clocklog;
+pub mod ending;
 pub mod lines;
 pub mod timing;

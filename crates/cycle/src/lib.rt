@@ -137,7 +137,8 @@ fn advance<P: Predictor, I: Memory, D: Memory>(core: &mut Core<P, I, D>) -> Even
 /// is, and tells nothing.
 pub fn checked_cycle<P: Predictor, I: Memory, D: Memory>(core: &mut Core<P, I, D>) -> Option<Event>
     ensures cycles { Cycles P.Predictor.table I.Memory.means D.Memory.means core.old result core.new }
-    ensures laws { IfSome result (λ e. ClockLaws P.Predictor.table I.Memory.means D.Memory.means core.old e core.new) }
+    ensures laws { IfSome result (λ e.
+        ClockLaws P.Predictor.table I.Memory.means D.Memory.means core.old e core.new) }
 {
     if core.stopped.is_some() || core.counts.clocks == u32::MAX {
         return None;

@@ -53,7 +53,8 @@ pub fn run_to<P: Predictor, I: Memory, D: Memory, W: Watch>(
     gaps: &mut Gaps,
     watch: &mut W,
 )
-    ensures { RanTo P.Predictor.table I.Memory.means D.Memory.means limit machine.old gaps.old machine.new gaps.new }
+    ensures { RanTo P.Predictor.table I.Memory.means D.Memory.means
+        limit machine.old gaps.old machine.new gaps.new }
 {
     // The slots are the caller's own, so they stand beside the journal that borrows them.
     let mut retired_slots = [RetiredAt::EMPTY; SLOTS];

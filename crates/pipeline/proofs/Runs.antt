@@ -97,29 +97,29 @@ module _ {P I D : Type 0} (j : Logs) (p : Machine P I D) (n made : ℕ) where
 pub record ClocksInto {P I D : Type 0} (table : Table P) (instructions : Meaning I) (words : Meaning D) (l : Logs) (m : Machine P I D) (k : ℕ) (j : Logs) (p : Machine P I D) : Type 0 where
   pub events : List Event
   pub steps : Clocks table instructions words l m k events p
-  pub logs_so : j ≡ logged l events
+  pub logs : j ≡ logged l events
 
 module _ {P I D : Type 0} {table : Table P} {instructions : Meaning I} {words : Meaning D} {l : Logs} {m : Machine P I D} where
   pub no_clocks : ClocksInto table instructions words l m 0 l m
-  no_clocks = record { events = []; steps = start; logs_so = sym (logged_none l) }
+  no_clocks = record { events = []; steps = start; logs = sym (logged_none l) }
 
   module _ {k : ℕ} {j : Logs} {p : Machine P I D} (cs : ClocksInto table instructions words l m k j p) {i : Logs} {q : Machine P I D} where
     -- an accepted clock more
     pub one_more : ClockedInto table instructions words j p (Ok tt) i q → ClocksInto table instructions words l m (k + 1) i q
     one_more (es, (says, (e, one, ticked), adds)) = record {
       events = cs.events ++ e ∷ [];
-      steps = next e q cs.steps (rw cs.logs_so at says) ticked;
-      logs_so = adds ∙ ap (logged j) one ∙ ap (λ x. logged x (e ∷ [])) cs.logs_so ∙ logged_after l cs.events (e ∷ []);
+      steps = next e q cs.steps (rw cs.logs at says) ticked;
+      logs = adds ∙ ap (logged j) one ∙ ap (λ x. logged x (e ∷ [])) cs.logs ∙ logged_after l cs.events (e ∷ []);
     }
 
     -- the clock that is refused
     pub cut_short : (n : ℕ) (why : Refusal) → k < n → ClockedInto table instructions words j p (Err why) i q → RanInto table instructions words l m n (record { made = k; why = Some why }) i q
     cut_short n why lt (es, (says, none, same, logs)) =
-        (cs.events, (rw same cs.steps, logs ∙ cs.logs_so, rw (logs, same) (ended j p n k why says (inl lt))))
+        (cs.events, (rw same cs.steps, logs ∙ cs.logs, rw (logs, same) (ended j p n k why says (inl lt))))
 
   -- as many as were asked for
   pub all_made : {k : ℕ} {j : Logs} {p : Machine P I D} (cs : ClocksInto table instructions words l m k j p) (n : ℕ) → k ≡ n → (k ≡ 0 → refusal j p ≡ 0) → RanInto table instructions words l m n (record { made = n; why = None }) j p
-  all_made cs n e f = (cs.events, (rw (← e) cs.steps, cs.logs_so, (refl, λ z. f (e ∙ z))))
+  all_made cs n e f = (cs.events, (rw (← e) cs.steps, cs.logs, (refl, λ z. f (e ∙ z))))
 
   -- refused before the first
   pub at_once : (n : ℕ) (why : Refusal) → refusal l m ≡ number why → RanInto table instructions words l m n (record { made = 0; why = Some why }) l m

@@ -11,7 +11,8 @@ use Rattle.clocking.specs.declared.state.Core.{Core}
 use Rattle.clocking.specs.declared.state.Event.{Event}
 use Rattle.clocking.proofs.Agrees.{Kept, Fresh, kept_first, kept_cycle, kept_agrees}
 use Rattle.pipeline.specs.Calls.{Logs, logged, retired_entries, clock_entries, refusal, Ticked, Clocked, Clocks, start, next, HoldCall, ReleaseCall}
-use Rattle.pipeline.specs.Theorem.{Entries, followed_by, entries_of, Added, Calls, none, clock, run, hold, release, reading, Agrees}
+use Rattle.pipeline.specs.Theorem.{Entries, followed_by, entries_of, Added, Calls, none, clock, run, hold, release, pause, reading, Agrees}
+use Rattle.pipeline.specs.Pauses.{Paused}
 use Rattle.pipeline.specs.declared.machine.Machine.{Machine}
 use Rattle.pipeline.specs.declared.machine.Rejected.{Rejected}
 use Rattle.pipeline.specs.declared.token.HoldToken.{HoldToken}
@@ -89,6 +90,10 @@ module _ {P I D : Type 0} (table : Table P) (instructions : Meaning I) (words : 
   by_release h m token (Ok u) n k c = rw c.2 k
   by_release h m token (Err e) n k c = rw c.3 k
 
+  by_pause : (h : List Event) (m : Machine P I D) (r : Result (Unit {0}) Refusal) (n : Machine P I D) → Holds h m.core → Paused m r n → Holds h n.core
+  by_pause h m (Ok u) n k c = rw c.1 k
+  by_pause h m (Err why) n k c = rw c.2 k
+
   by_calls : (h : List Event) (put : Entries) (m : Machine P I D) → Holds [] first.core → Calls table instructions words first h put m → Holds h m.core × (put ≡ entries_of h)
   by_calls h put m k none = (k, refl)
   by_calls h put m k (clock {h = g} {put = q} {m = p} before after r es added n cs c a) =
@@ -100,6 +105,7 @@ module _ {P I D : Type 0} (table : Table P) (instructions : Meaning I) (words : 
       (by_clocks g before p r.made es n b.0 c.0, written_more g q before after es added b.1 c.1 a)
   by_calls h put m k (hold {h = g} {put = q} {m = p} r n cs c) = let b = by_calls g q p k cs in (by_hold g p r n b.0 c, b.1)
   by_calls h put m k (release {h = g} {put = q} {m = p} token r n cs c) = let b = by_calls g q p k cs in (by_release g p token r n b.0 c, b.1)
+  by_calls h put m k (pause {h = g} {put = q} {m = p} r n cs c) = let b = by_calls g q p k cs in (by_pause g p r n b.0 c, b.1)
   by_calls h put m k (reading cs) = by_calls h put m k cs
 
   pub agrees : Fresh table instructions words il dl first.core → Agrees table instructions words first

@@ -6,6 +6,7 @@ use Rattle.base.specs.declared.refusal.Refusal.{Refusal}
 use Rattle.memory.specs.Meaning.{Meaning}
 use Rattle.sequential.specs.declared.record.Retirement.{Retirement}
 use Rattle.clocking.specs.Clock.{Cycled}
+use Rattle.clocking.specs.Laws.{ClockLaws}
 use Rattle.clocking.specs.Ports.{Table}
 use Rattle.clocking.specs.declared.state.ClockRecord.{ClockRecord}
 use Rattle.clocking.specs.declared.state.Event.{Event}
@@ -104,17 +105,19 @@ refusal l m =
     else 0)))
 
 module _ {P I D : Type 0} (table : Table P) (instructions : Meaning I) (words : Meaning D) where
-  -- an accepted clock of the machine
+  -- an accepted clock of the machine: it is what the rule has, and keeps the laws
   pub record Ticked (m : Machine P I D) (e : Event) (n : Machine P I D) : Type 0 where
     pub same_serial : n.serial ≡ m.serial
     pub same_held : n.held ≡ m.held
     pub cycled : Cycled table instructions words m.core e n.core
+    pub laws : ClockLaws table instructions words m.core e n.core
 
   abbrev pub OneClock : Machine P I D → List Event → Machine P I D → Type 0
   OneClock m es n = (e : Event) × (es ≡ e ∷ []) × Ticked m e n
 
   -- the clocks es that the call made, one or none, and the logs j and the machine n after it
-  abbrev pub Clocked : Logs → Machine P I D → Result (Unit {0}) Refusal → List Event → Logs → Machine P I D → Type 0
+  abbrev pub Clocked : Logs → Machine P I D → Result (Unit {0}) Refusal
+      → List Event → Logs → Machine P I D → Type 0
   Clocked l m r es j n =
       Says
       (λ _. (refusal l m ≡ 0) × OneClock m es n × (j ≡ logged l es))
@@ -127,7 +130,9 @@ module _ {P I D : Type 0} (table : Table P) (instructions : Meaning I) (words : 
 -- ---- run
 
 -- so many accepted clocks in a row
-pub data Clocks {P I D : Type 0} (table : Table P) (instructions : Meaning I) (words : Meaning D) (l : Logs) (m : Machine P I D) : ℕ → List Event → Machine P I D → Type 0 where
+pub data Clocks {P I D : Type 0}
+    (table : Table P) (instructions : Meaning I) (words : Meaning D) (l : Logs) (m : Machine P I D)
+    : ℕ → List Event → Machine P I D → Type 0 where
   start : Clocks table instructions words l m 0 [] m
   next : {k : ℕ} {es : List Event} {n : Machine P I D} (e : Event) (p : Machine P I D)
       → Clocks table instructions words l m k es n
@@ -139,7 +144,9 @@ pub data Clocks {P I D : Type 0} (table : Table P) (instructions : Meaning I) (w
 abbrev pub Short : ℕ → ℕ → Type 0
 Short made n = (made < n) ⊎ ((made ≡ 0) × (n ≡ 0))
 
--- How a run of n ends, by the number of its reason. 0: all were made, and where none were asked for, the first test says nothing against a clock. Any other: it is short, and the next clock would be refused with just this number.
+-- How a run of n ends, by the number of its reason, at the logs and the machine then reached.
+-- 0: all were made, and where none were asked for, nothing refused the first test.
+-- Any other: it is short, and just with this number the next clock would be refused.
 abbrev pub Ended : {P I D : Type 0} → Logs → Machine P I D → ℕ → ℕ → ℕ → Type 0
 Ended j p n made zero = (made ≡ n) × (n ≡ 0 → refusal j p ≡ 0)
 Ended j p n made why = Short made n × (refusal j p ≡ why)
@@ -160,7 +167,8 @@ module _ {P I D : Type 0} (table : Table P) (instructions : Meaning I) (words : 
 abbrev pub with_held : {P I D : Type 0} → Machine P I D → Bool → Machine P I D
 with_held m b = record m { held = b }
 
-abbrev pub HoldCall : {P I D : Type 0} → Machine P I D → Result HoldToken Refusal → Machine P I D → Type 0
+abbrev pub HoldCall : {P I D : Type 0}
+    → Machine P I D → Result HoldToken Refusal → Machine P I D → Type 0
 HoldCall m r n =
     Says
     (λ token. (m.held ≡ false) × (token ≡ fresh m.serial) × (n ≡ with_held m true))
@@ -171,7 +179,8 @@ abbrev pub IsUnfit : {P I D : Type 0} → Machine P I D → HoldToken → Type 0
 IsUnfit m token = (m.held ≡ false) ⊎ (token.serial ≢ m.serial)
 
 -- a token that is refused comes back
-abbrev pub ReleaseCall : {P I D : Type 0} → Machine P I D → HoldToken → Result (Unit {0}) Rejected → Machine P I D → Type 0
+abbrev pub ReleaseCall : {P I D : Type 0}
+    → Machine P I D → HoldToken → Result (Unit {0}) Rejected → Machine P I D → Type 0
 ReleaseCall m token r n =
     Answers
     (λ e. number e.why)

@@ -7,6 +7,7 @@ use Rattle.clocking.specs.Ports.{Table}
 use Rattle.clocking.specs.declared.state.ClockRecord.{ClockRecord}
 use Rattle.clocking.specs.declared.state.Event.{Event}
 use Rattle.pipeline.specs.Calls.{Logs, retired_entries, clock_entries, Clocked, Ran, HoldCall, ReleaseCall}
+use Rattle.pipeline.specs.Pauses.{Paused}
 use Rattle.pipeline.specs.declared.machine.Machine.{Machine}
 use Rattle.pipeline.specs.declared.machine.Rejected.{Rejected}
 use Rattle.pipeline.specs.declared.machine.RetiredAt.{RetiredAt}
@@ -39,8 +40,12 @@ pub record Added (before after : Logs) (added : Entries) : Type 0 where
 
 -- ---- the calls
 
--- A machine is reached from first by calls, each accepted or refused, that made the clocks of a history and put entries into the logs that they were given: one case for each call that can alter a machine, by the relation that the call ensures, and one for all readings.
-pub data Calls {P I D : Type 0} (table : Table P) (instructions : Meaning I) (words : Meaning D) (first : Machine P I D) : List Event → Entries → Machine P I D → Type 0 where
+-- A machine is reached from first by calls, each accepted or refused, that made the clocks of a
+-- history and put entries into the logs that they were given: one case for each call that can alter
+-- a machine, by the relation that the call ensures, and one for all readings.
+pub data Calls {P I D : Type 0}
+    (table : Table P) (instructions : Meaning I) (words : Meaning D) (first : Machine P I D)
+    : List Event → Entries → Machine P I D → Type 0 where
   none : Calls table instructions words first [] no_entries first
   clock : {h : List Event} {put : Entries} {m : Machine P I D} (before after : Logs)
       (answer : Result (Unit {0}) Refusal) (made : List Event) (added : Entries) (n : Machine P I D)
@@ -64,6 +69,11 @@ pub data Calls {P I D : Type 0} (table : Table P) (instructions : Meaning I) (wo
       → Calls table instructions words first h put m
       → ReleaseCall m token answer n
       → Calls table instructions words first h put n
+  pause : {h : List Event} {put : Entries} {m : Machine P I D}
+      (answer : Result (Unit {0}) Refusal) (n : Machine P I D)
+      → Calls table instructions words first h put m
+      → Paused m answer n
+      → Calls table instructions words first h put n
   reading : {h : List Event} {put : Entries} {m : Machine P I D}
       → Calls table instructions words first h put m
       → Calls table instructions words first h put m
@@ -73,9 +83,12 @@ pub data Calls {P I D : Type 0} (table : Table P) (instructions : Meaning I) (wo
 -- the entries are those of the history's clocks, in order, and these are numbered from 1
 pub record Recorded (h : List Event) (put : Entries) : Type 0 where
   pub entries : put ≡ entries_of h
-  pub numbered : (a : List Event) (e : Event) (b : List Event) → h ≡ a ++ e ∷ b → e.clock.clock ≡ length a + 1
+  pub numbered : (a : List Event) (e : Event) (b : List Event)
+      → h ≡ a ++ e ∷ b
+      → e.clock.clock ≡ length a + 1
 
--- After any calls a machine agrees with the sequential machine that starts as first does, on the words and bytes that its two memories mean, and the logs were given what the history tells.
+-- After any calls a machine agrees with the sequential machine that starts as first does, on the
+-- words and bytes that its two memories mean, and the logs have what the history tells.
 abbrev pub Agrees : {P I D : Type 0} → Table P → Meaning I → Meaning D → Machine P I D → Type 0
 Agrees {P} {I} {D} table instructions words first =
     (h : List Event) (put : Entries) (m : Machine P I D)

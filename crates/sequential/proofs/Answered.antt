@@ -8,7 +8,7 @@ use Rattle.base.specs.declared.bus.Request.TheVariants.{Read, Write}
 use Rattle.memory.specs.Meaning.{View, Same, Settled}
 use Rattle.memory.specs.Meaning.{Reply}
 use Rattle.memory.specs.declared.Answer.TheVariants.{Word, Done}
-use Rattle.memory.specs.declared.Unserved.TheVariants.{Wait, Outside}
+use Rattle.memory.specs.declared.Unserved.TheVariants.{Outside}
 use Rattle.rv32i.specs.declared.cause.Cause.{Cause}
 use Rattle.rv32i.specs.declared.cause.Cause.TheVariants.{JumpMisaligned, FetchOutside}
 use Rattle.rv32i.specs.declared.effect.Access.{Access}
@@ -36,10 +36,9 @@ module _ {M : Type 0} (v : View M) (m n : M) where
       rw (z, o)
 
   fetches_by : (a : ℕ) (r : Reply) → a % 4 ≡ 0 → Settled v m (Read a) r n → (fetched r ≡ fetch (v.size m) (v.byte m) a) × Same v m n
-  fetches_by a (Ok (Word w)) e h = (fetch_inside a w h.0 h.1, h.2)
-  fetches_by a (Ok Done) e h = absurd h
-  fetches_by a (Err Wait) e h = absurd h
   fetches_by a (Err Outside) e h = (fetch_outside a e h.0, h.1)
+  fetches_by a (Ok (Word w)) e h = (fetch_inside a w h.0 h.1, h.2)
+  fetches_by a _ e h = absurd h
 
   pub fetches : (a : ℕ) (r : Reply) (z : Result ℕ Cause) → a % 4 ≡ 0 → Gives (fetched r) z → Settled v m (Read a) r n
       → Gives (fetch (v.size m) (v.byte m) a) z × Same v m n
@@ -49,14 +48,11 @@ module _ {M : Type 0} (v : View M) (m n : M) where
 
   transfers_by : (q : Request) (how : Option Access) (x : ℕ) (r : Reply) → InRange (v.size m) (Ok (Some q)) → Settled v m q r n
       → Transferred v m (Ok (Some q)) how x (Ok (completed how x r)) n
-  transfers_by (Read a) how x (Ok (Word w)) k h = ((ap (λ (y : ℕ). loaded how x y) h.1, fun_ext h.2.byte), h.2.size)
-  transfers_by (Read a) how x (Ok Done) k h = absurd h
-  transfers_by (Read a) how x (Err Wait) k h = absurd h
   transfers_by (Read a) how x (Err Outside) k h = absurd (both_ways _ h.0 k)
-  transfers_by (Write a w l) how x (Ok (Word y)) k h = absurd h
-  transfers_by (Write a w l) how x (Ok Done) k h = ((refl, fun_ext h.1.byte), h.1.size)
-  transfers_by (Write a w l) how x (Err Wait) k h = absurd h
   transfers_by (Write a w l) how x (Err Outside) k h = absurd (both_ways _ h.0 k)
+  transfers_by (Read a) how x (Ok (Word w)) k h = ((ap (λ (y : ℕ). loaded how x y) h.1, fun_ext h.2.byte), h.2.size)
+  transfers_by (Write a w l) how x (Ok Done) k h = ((refl, fun_ext h.1.byte), h.1.size)
+  transfers_by _ how x _ k h = absurd h
 
   pub transfers : (q : Request) (how : Option Access) (x b y : ℕ) (r : Reply) → Gives (request (v.size m) how x b) (Ok (Some q)) → y ≡ completed how x r → Settled v m q r n
       → Transferred v m (request (v.size m) how x b) how x (Ok y) n

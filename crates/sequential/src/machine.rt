@@ -57,7 +57,8 @@ fn fetched(reply: Reply) -> Result<u32, Cause>
 /// The word at an address of the image, or why there is none.
 #[tactic(auto, using(crate::proofs::Answered::fetch_misaligned, crate::proofs::Answered::fetches, memory::proofs::Rules::same_as))]
 fn fetch<I: Memory>(image: &mut I, address: u32) -> Result<u32, Cause>
-    ensures word { Gives (fetch (I.Memory.means.view.size image.old) (I.Memory.means.view.byte image.old) address) result }
+    ensures word { let view = I.Memory.means.view in
+        Gives (fetch (view.size image.old) (view.byte image.old) address) result }
     ensures same { Same I.Memory.means.view image.old image.new }
 {
     if address % 4 != 0 {

@@ -17,7 +17,8 @@ impl<I: Memory, D: Memory> Machine<I, D> {
         ensures world { world_of I.Memory.means.view D.Memory.means.view self.new ≡ world_of I.Memory.means.view D.Memory.means.view self.old }
         ensures stopped { self.new.stopped ≡ stopped_after self.old.stopped result }
         ensures for_good { IsSome self.old.stopped → (self.new ≡ self.old) × (log.new ≡ log.old) }
-        ensures spare { spare log.new ≡ drop (length (records log.new) - length (records log.old)) (spare log.old) }
+        ensures spare { spare log.new
+            ≡ drop (length (records log.new) - length (records log.old)) (spare log.old) }
         ensures room { room log.new ≡ room log.old }
         ensures lent { log.new.slots.ghost_name ≡ log.old.slots.ghost_name }
     {

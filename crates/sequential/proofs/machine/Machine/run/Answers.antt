@@ -46,7 +46,7 @@ returns-in-Err g c =
     subst (λ (w : World). Stepped w (state_of bytes c.loop-self.self) c.loop-self.self.stopped (Err c.in-Err.stop) (state_of bytes c.step.new.self) c.step.new.self.stopped)
     inv.world c.in-Err.ensures.does in
     record {
-      does = stops_at _ _ _ _ (room c.args.log.now) (rw inv.room at c.loop-self-test.ensures) c.in-Err.stop _ _ inv.ran (rw inv.stopped at does);
+      does = stops_at _ _ (state_of bytes c.step.new.self) _ (room c.args.log.now) (rw inv.room at c.loop-self-test.ensures) c.in-Err.stop _ _ inv.ran (rw inv.stopped at does);
       world = c.step.ensures.world ∙ inv.world;
       stopped = halts _ _ _ _ _ _ does;
       for_good = λ some. (c.in-Err.ensures.for_good (subst IsSome (sym inv.stopped) some) ∙ (inv.for_good some).0, (inv.for_good some).1);

@@ -3,13 +3,18 @@ use Rattle.std.specs.Prelude.{ℕ, List, []}
 use Rattle.predictor.specs.Tables.{Table, bimodal, gshare, judged, tournament}
 use Rattle.base.specs.declared.branch.Outcome.{Outcome}
 use Rattle.predictor.specs.declared.bimodal.Bimodal.{Bimodal}
+use Rattle.predictor.specs.declared.counters.Counters.{Counters}
 use Rattle.predictor.specs.declared.gshare.Gshare.{Gshare}
 use Rattle.predictor.specs.declared.tournament.Tournament.{Tournament}
+
+-- the values of a table of counters, by number
+abbrev pub values_of : Counters → List ℕ
+values_of c = c.values
 
 -- ---- Bimodal: the values of its counters
 
 abbrev pub counters_of : Bimodal → List ℕ
-counters_of b = b.counters.values
+counters_of b = values_of b.counters
 
 abbrev pub bimodal_table : Bimodal → Table
 bimodal_table b = bimodal (counters_of b)
@@ -17,7 +22,7 @@ bimodal_table b = bimodal (counters_of b)
 -- ---- Gshare: the values of its counters, and its history
 
 abbrev pub gshare_counters : Gshare → List ℕ
-gshare_counters g = g.counters.values
+gshare_counters g = values_of g.counters
 
 abbrev pub history_of : Gshare → ℕ
 history_of g = g.history.bits
@@ -29,7 +34,7 @@ gshare_table g = gshare (gshare_counters g) (history_of g)
 
 module _ {A B : Type 0} where
   abbrev pub choosers_of : Tournament A B → List ℕ
-  choosers_of t = t.choosers.values
+  choosers_of t = values_of t.choosers
 
   abbrev pub first_of : Tournament A B → A
   first_of t = t.first

@@ -1,21 +1,23 @@
 //! A table of saturating counters.
-ghost use Rattle.std.specs.Prelude.{◌≡◌, ℕ, ◌≤◌, slice_index};
-ghost use Rattle.predictor.specs.Counting.{fresh, value_at, counted, number_of};
+ghost use Rattle.std.specs.Prelude.{ℕ, ◌≤◌, slice_index};
 
 use crate::counter::Counter;
 
 /// 256 counters, numbered from 0.
 #[derive(Drop)]
 pub struct Counters {
-    // Numbers, since the tables in the contracts are of numbers.
     values: [u8; 256],
     ghost range: { (k : ℕ) → slice_index values k ≤ 3 },
 }
 
 impl Counters {
+    ghost use Rattle.std.specs.Prelude.{◌≡◌};
+    ghost use Rattle.predictor.specs.Counting.{fresh, value_at, counted, number_of};
+    ghost use Rattle.predictor.specs.States.{values_of};
+
     /// All of them are 1 at first.
     pub fn new() -> Counters
-        ensures { result.values ≡ fresh }
+        ensures { values_of result ≡ fresh }
     {
         Counters { values: [1; 256] }
     }
@@ -29,7 +31,7 @@ impl Counters {
 
     /// The counter of that number.
     pub fn get(&self, number: u8) -> Counter
-        ensures { result.value ≡ value_at self.now.values number }
+        ensures { result.value ≡ value_at (values_of self.now) number }
     {
         Counter {
             value: self.values[usize::from(number)],
@@ -38,7 +40,7 @@ impl Counters {
 
     /// The counter of that number goes one step up or down; the others stay.
     pub fn count(&mut self, number: u8, up: bool)
-        ensures { self.new.values ≡ counted self.old.values number up }
+        ensures { values_of self.new ≡ counted (values_of self.old) number up }
     {
         self.values[usize::from(number)] = self.get(number).stepped(up).value;
     }

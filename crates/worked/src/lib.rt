@@ -39,7 +39,8 @@ fn taken(address: u32, target: u32) -> Outcome
 
 /// The predictor learns an outcome: the value of the branch's counter then.
 fn learned(bimodal: &mut Bimodal, outcome: Outcome) -> u8
-    ensures counter { result ≡ value_at (taught (counters_of bimodal.old) outcome) (number_of outcome.address) }
+    ensures counter { result
+        ≡ value_at (taught (counters_of bimodal.old) outcome) (number_of outcome.address) }
     ensures counters { counters_of bimodal.new ≡ taught (counters_of bimodal.old) outcome }
 {
     bimodal.update(outcome);

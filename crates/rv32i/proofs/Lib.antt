@@ -1,3 +1,4 @@
+pub mod Flat
 pub mod Laws
 pub mod Numbered
 pub mod OwnBytes

@@ -111,7 +111,7 @@ impl Instruction {
 }
 
 /// What is computed of two operands; a shift goes by the low five bits of the second.
-// Two numbers, as the manual has them: a struct of the two would be built to be taken apart.
+#[inline]
 pub fn arithmetic(op: RegisterOp, a: u32, b: u32) -> u32
     ensures { result ≡ arithmetic op a b }
 {
@@ -160,6 +160,7 @@ impl From<ShiftOp> for RegisterOp {
 
 impl Condition {
     /// Whether a branch with these operands is taken.
+    #[inline]
     pub fn holds(self, a: u32, b: u32) -> bool
         ensures { result ≡ holds self a b }
     {
@@ -175,7 +176,8 @@ impl Condition {
 }
 
 /// To the next instruction, with that result.
-fn goes_on(address: u32, res: u32) -> Effect
+#[inline]
+pub(crate) fn goes_on(address: u32, res: u32) -> Effect
     ensures { result ≡ goes_on address res }
 {
     Effect {
@@ -186,7 +188,8 @@ fn goes_on(address: u32, res: u32) -> Effect
 }
 
 /// To a target, unless that is no multiple of 4.
-fn jumps(res: u32, target: u32, outcome: Option<Outcome>) -> Result<Effect, Cause>
+#[inline]
+pub(crate) fn jumps(res: u32, target: u32, outcome: Option<Outcome>) -> Result<Effect, Cause>
     ensures { result ≡ jumps res target outcome }
 {
     if target % 4 == 0 {
@@ -201,7 +204,8 @@ fn jumps(res: u32, target: u32, outcome: Option<Outcome>) -> Result<Effect, Caus
 }
 
 /// To a branch's target where it is taken, else to the next instruction.
-fn branches(address: u32, target: u32, taken: bool) -> Result<Effect, Cause>
+#[inline]
+pub(crate) fn branches(address: u32, target: u32, taken: bool) -> Result<Effect, Cause>
     ensures { result ≡ branches address target taken }
 {
     let outcome = Some(Outcome {

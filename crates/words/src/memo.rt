@@ -11,23 +11,25 @@ use std::marker::Model;
 #[derive(Clone, Copy)]
 struct Entry {
     word: u32,
-    issued: Result<MicroOp, Cause>,
+    answer: Result<MicroOp, Cause>,
 }
 
 impl Model for Entry {
-    ghost use Rattle.std.specs.Prelude.{◌≡◌, ℕ};
+    ghost use Rattle.std.specs.Prelude.{◌≡◌, ℕ, Result};
     ghost use Rattle.std.proofs.Common.{ap, sym};
+    ghost use Rattle.rv32i.specs.declared.cause.Cause.{Cause};
+    ghost use Rattle.rv32i.specs.declared.instruction.Instruction.{Instruction};
     ghost use Rattle.words.specs.Issues.{issued};
 
     ghost Value = { ℕ };
 
     ghost view = { λ e. e.word };
 
-    ghost invariant = { λ e. e.issued ≡ issued e.word };
+    ghost invariant = { λ e. e.answer ≡ issued e.word };
 
-    ghost inverse = { λ w. record { word = w; issued = issued w } };
+    ghost inverse = { λ w. record { word = w; answer = issued w } };
 
-    ghost inverse_ok = { λ e h. Prim.cc };
+    ghost inverse_ok = { λ e h. ap (λ (a : Result Instruction Cause). record { word = e.word; answer = a }) (sym h) };
 }
 
 /// What a word issues, laid out flat.
@@ -44,7 +46,7 @@ impl Entry {
     {
         Entry {
             word,
-            issued: flat(word),
+            answer: flat(word),
         }
     }
 
@@ -91,6 +93,6 @@ impl Memo {
         if entry.word != word {
             entry.remember(word);
         }
-        entry.issued
+        entry.answer
     }
 }

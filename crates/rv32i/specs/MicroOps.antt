@@ -161,20 +161,17 @@ immediate_of (Load k d r z) = bits_of z
 immediate_of (Store k r q z) = bits_of z
 immediate_of (Immediate o d r z) = bits_of z
 immediate_of (Shift o d r n) = n
-immediate_of (Register o d r q) = 0
-immediate_of AFence = 0
-immediate_of AnEcall = 0
-immediate_of AnEbreak = 0
+immediate_of _ = 0
 
 abbrev pub fields_of : Instruction → Inside
 fields_of i =
     record {
-      imm = immediate_of i
-    ; mnemonic = mnemonic_of i
-    ; rd = destination i
-    ; rs1 = first_source i
-    ; rs2 = second_source i
-    ; access = access i
+      imm = immediate_of i;
+      mnemonic = mnemonic_of i;
+      rd = destination i;
+      rs1 = first_source i;
+      rs2 = second_source i;
+      access = access i;
     }
 
 -- each field is what the instruction has there

@@ -15,7 +15,7 @@ use std::marker::Model;
 
 /// The names of the forty, in the manual's order.
 #[derive(Clone, Copy, PartialEq, Eq, Debug)]
-pub enum Mnemonic {
+enum Mnemonic {
     Lui,
     Auipc,
     Jal,
@@ -293,7 +293,7 @@ impl MicroOp {
     }
 
     /// What the instruction at an address comes to, with the operands that it read.
-    #[inline]
+    #[inline(always)]
     #[tactic(auto, using(crate::proofs::Flat::bits_kept), unfolding(crate::specs::Effects::executed))]
     pub fn execute(self, address: u32, a: u32, b: u32) -> Result<Effect, Cause>
         ensures { result ≡ executed self address a b }

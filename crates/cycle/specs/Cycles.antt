@@ -1,23 +1,22 @@
 -- One clock of a core, as a call, and its decode stage. Assumes nothing.
 use Rattle.std.specs.Prelude.{◌≡◌, ◌<◌, true, ◌⊎◌, is_some, Some, None, Option}
 use Rattle.memory.specs.Meaning.{Meaning}
-use Rattle.rv32i.specs.declared.register.Register.{Register}
 use Rattle.rv32i.specs.declared.registers.Registers.{Registers}
 use Rattle.clocking.specs.Clock.{Cycled}
 use Rattle.clocking.specs.Ports.{Table}
-use Rattle.clocking.specs.Stages.{DecodeOut, decode_stage, x_result}
+use Rattle.clocking.specs.Stages.{DecodeOut, decode_stage, values_in_flight, x_result}
+use Rattle.clocking.specs.declared.latch.Completed.{Completed}
 use Rattle.clocking.specs.declared.latch.Decoded.{Decoded}
+use Rattle.clocking.specs.declared.latch.Executed.{Executed}
 use Rattle.clocking.specs.declared.latch.Latch.{Latch}
 use Rattle.clocking.specs.declared.latch.Latches.{Latches}
 use Rattle.clocking.specs.declared.stage.Flow.{Flow}
 use Rattle.clocking.specs.declared.state.Core.{Core}
 use Rattle.clocking.specs.declared.state.Event.{Event}
-use Rattle.stages.specs.Flight.{given_by}
-use Rattle.stages.specs.declared.decode.Written.{Written}
 
--- what decode makes of latches of which W and M are filled already: m is what M was to write and w what W wrote, and the flows say what became of M and X
-abbrev pub decoded : Flow → Flow → Option Register → Written → Registers → Latches → DecodeOut
-decoded by-data by-execute m w g k = decode_stage (given_by (x_result by-data k.m) m k.w w g) k.x k.d by-execute
+-- what decode makes of latches of which W and M are filled already: m and w are those as they were, and the flows say what became of M and X
+abbrev pub decoded : Flow → Flow → Latch Executed → Latch Completed → Registers → Latches → DecodeOut
+decoded by-data by-execute m w g k = decode_stage (values_in_flight (x_result by-data k.m) m k.w w g) k.x k.d by-execute
 
 -- the latches with X filled
 abbrev pub with_x : Latches → Latch Decoded → Latches

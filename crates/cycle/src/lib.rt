@@ -5,6 +5,10 @@ ghost use Rattle.std.specs.Prelude.{◌≡◌, ◌<◌, None, IfSome};
 ghost use Rattle.clocking.specs.Clock.{Moved, Halted};
 ghost use Rattle.clocking.specs.Counting.{Counted};
 ghost use Rattle.clocking.specs.Laws.{ClockLaws};
+ghost use Rattle.clocking.specs.declared.latch.Completed.{Completed};
+ghost use Rattle.clocking.specs.declared.latch.Executed.{Executed};
+ghost use Rattle.clocking.specs.declared.latch.Latch.{Latch};
+ghost use Rattle.stages.specs.Flight.{rd_of, written_of};
 ghost use Rattle.cycle.specs.Cycles.{Cycles, decoded, with_x};
 
 use clocking::counts::Counts;
@@ -66,8 +70,8 @@ fn decode(
     registers: &Registers,
     latches: &mut Latches,
 ) -> Flow
-    ensures latches { latches.new ≡ with_x latches.old (decoded completes executes m w registers.now latches.old).x }
-    ensures flow { result ≡ (decoded completes executes m w registers.now latches.old).flow }
+    ensures latches { (old_m : Latch Executed) (old_w : Latch Completed) → m ≡ rd_of old_m → w ≡ written_of old_w → latches.new ≡ with_x latches.old (decoded completes executes old_m old_w registers.now latches.old).x }
+    ensures flow { (old_m : Latch Executed) (old_w : Latch Completed) → m ≡ rd_of old_m → w ≡ written_of old_w → result ≡ (decoded completes executes old_m old_w registers.now latches.old).flow }
 {
     let in_flight = InFlight {
         flow: completes,
@@ -82,7 +86,6 @@ fn decode(
 
 /// W retires, and the rest moves on.
 #[inline(always)]
-#[tactic(auto, using(stages::proofs::Flight::same_values))]
 fn advance<P: Predictor, I: Memory, D: Memory>(core: &mut Core<P, I, D>) -> Event
     requires { (core.old.stopped ≡ None) × (core.old.counts.clocks < 4294967295) }
     ensures { Moved P.Predictor.table I.Memory.means D.Memory.means core.old result core.new }

@@ -8,6 +8,7 @@ use Rattle.clocking.specs.declared.latch.Completed.{Completed}
 use Rattle.clocking.specs.declared.latch.Executed.{Executed}
 use Rattle.clocking.specs.declared.latch.Latch.{Latch}
 use Rattle.clocking.specs.declared.latch.Latch.TheVariants.{Empty, Faulting, Full}
+use Rattle.stages.specs.declared.decode.Written.{Written}
 use Rattle.stages.specs.Flight.{rd_of, written_of, from_rd, given_by}
 
 m_by_rd : (m : Latch Executed) (answer : Latch Completed) (r : Register) → from_rd (rd_of m) (arrived answer) r ≡ from_m m answer r
@@ -24,6 +25,7 @@ same_value : (x m : Latch Executed) (answer w : Latch Completed) (g : Registers)
     → given_by x (rd_of m) answer (written_of w) g r ≡ values_in_flight x m answer w g r
 same_value x m answer w g r = rw (m_by_rd m answer r, w_by_rd w r) refl
 
-pub same_values : (x m : Latch Executed) (answer w : Latch Completed) (g : Registers)
-    → given_by x (rd_of m) answer (written_of w) g ≡ values_in_flight x m answer w g
-same_values x m answer w g = fun_ext (same_value x m answer w g)
+pub same_values : (x m : Latch Executed) (answer w : Latch Completed) (g : Registers) (rd : Option Register) (written : Written)
+    → rd ≡ rd_of m → written ≡ written_of w
+    → given_by x rd answer written g ≡ values_in_flight x m answer w g
+same_values x m answer w g rd written e h = rw (e, h) (fun_ext (same_value x m answer w g))

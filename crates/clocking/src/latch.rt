@@ -2,7 +2,7 @@
 use base::branch::Outcome;
 use rv32i::cause::Cause;
 use rv32i::effect::Access;
-use rv32i::instruction::Instruction;
+use rv32i::micro_op::MicroOp;
 use rv32i::register::Register;
 use sequential::record::Stop;
 
@@ -11,7 +11,7 @@ use sequential::record::Stop;
 pub struct Fetched {
     pub address: u32,
     pub word: u32,
-    pub issued: Result<Instruction, Cause>,
+    pub issued: Result<MicroOp, Cause>,
     pub guess: u32,
 }
 
@@ -20,7 +20,7 @@ pub struct Fetched {
 pub struct Decoded {
     pub address: u32,
     pub word: u32,
-    pub instruction: Instruction,
+    pub instruction: MicroOp,
     pub rd: Option<Register>,
     pub a: u32,
     pub b: u32,
@@ -51,7 +51,6 @@ pub struct Completed {
 }
 
 /// A latch is empty, or holds an instruction that has a cause to stop, or one that has none so far.
-// Three states with names, of which the rule of the clock speaks: an Option of a Result would be no plainer. None are compared.
 #[derive(Clone, Copy)]
 pub enum Latch<T> {
     Empty,

@@ -5,15 +5,17 @@ use memory::Memory;
 use predictor::Predictor;
 use rv32i::registers::Registers;
 use sequential::record::{Retirement, Stop};
+use words::memo::Memo;
 
-/// The registers, the latches and the counts, with the predictor and the two memories.
-// The predictor and the memories are chosen apart, so they are three parameters wherever a core goes.
+/// The registers, the latches and the counts, with the words that are remembered, the predictor and the two memories.
 #[derive(Drop)]
 pub struct Core<P: Predictor, I: Memory, D: Memory> {
     pub registers: Registers,
     pub latches: Latches,
     pub counts: Counts,
     pub stopped: Option<Stop>,
+    /// What the words that were fetched issue.
+    pub memo: Memo,
     pub predictor: P,
     pub instructions: I,
     pub data: D,

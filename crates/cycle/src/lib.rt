@@ -5,27 +5,32 @@ ghost use Rattle.std.specs.Prelude.{◌≡◌, ◌<◌, None, IfSome};
 ghost use Rattle.clocking.specs.Clock.{Moved, Halted};
 ghost use Rattle.clocking.specs.Counting.{Counted};
 ghost use Rattle.clocking.specs.Laws.{ClockLaws};
+ghost use Rattle.clocking.specs.declared.latch.Completed.{Completed};
+ghost use Rattle.clocking.specs.declared.latch.Executed.{Executed};
+ghost use Rattle.clocking.specs.declared.latch.Latch.{Latch};
+ghost use Rattle.stages.specs.Flight.{rd_of, written_of};
 ghost use Rattle.cycle.specs.Cycles.{Cycles, decoded, with_x};
 
 use clocking::counts::Counts;
-use clocking::latch::{Completed, Executed, Latch, Latches};
+use clocking::latch::{Latch, Latches};
 use clocking::stage::Flow;
 use clocking::state::{Core, Event, Notes};
 use memory::Memory;
-use ports::asking::{arrival, ask_or_idle, teach};
-use ports::counting::{dropped, has_fetched};
+use ports::asking::teach;
+use ports::counting::dropped;
 use ports::telling::{STOP, clock_record, notes};
 use predictor::Predictor;
+use rv32i::register::Register;
 use rv32i::registers::Registers;
 use sequential::record::Stop;
-use stages::data::{data_request, data_stage, sent};
-use stages::decode::{InFlight, decode_stage};
+use stages::data::data_stage;
+use stages::decode::{InFlight, Written, decode_stage, rd_of};
 use stages::execute::execute_stage;
-use stages::fetch::{fetch_stage, fetching};
+use stages::fetch::fetch_stage;
 use stages::write_back::{outcome_of, retirement_of, stop_of, write_back};
 
 /// Counts a clock, and what was fetched, retired and removed in it.
-// That a clock is left is asked here and by the two that count, and stands in no type: counts and a core may have none left.
+#[inline(always)]
 fn count(counts: &mut Counts, fetched: bool, retired: bool, gone: u32)
     requires { counts.old.clocks < 4294967295 }
     ensures { Counted counts.old fetched retired gone counts.new }
@@ -55,17 +60,18 @@ fn halt<P: Predictor, I: Memory, D: Memory>(core: &mut Core<P, I, D>, stop: Stop
     }
 }
 
-/// The decode stage, with what data and execute made of M and X; `m` and `w` are those latches as they were.
-fn decode<'a>(
+/// The decode stage, with what data and execute made of M and X; `m` and `w` are what was in those latches.
+#[inline(always)]
+fn decode(
     completes: Flow,
     executes: Flow,
-    m: &'a Latch<Executed>,
-    w: &'a Latch<Completed>,
-    registers: &'a Registers,
-    latches: &'a mut Latches,
+    m: Option<Register>,
+    w: Written,
+    registers: &Registers,
+    latches: &mut Latches,
 ) -> Flow
-    ensures latches { latches.new ≡ with_x latches.old (decoded completes executes m.now w.now registers.now latches.old).x }
-    ensures flow { result ≡ (decoded completes executes m.now w.now registers.now latches.old).flow }
+    ensures latches { (old_m : Latch Executed) (old_w : Latch Completed) → m ≡ rd_of old_m → w ≡ written_of old_w → latches.new ≡ with_x latches.old (decoded completes executes old_m old_w registers.now latches.old).x }
+    ensures flow { (old_m : Latch Executed) (old_w : Latch Completed) → m ≡ rd_of old_m → w ≡ written_of old_w → result ≡ (decoded completes executes old_m old_w registers.now latches.old).flow }
 {
     let in_flight = InFlight {
         flow: completes,
@@ -79,6 +85,7 @@ fn decode<'a>(
 }
 
 /// W retires, and the rest moves on.
+#[inline(always)]
 fn advance<P: Predictor, I: Memory, D: Memory>(core: &mut Core<P, I, D>) -> Event
     requires { (core.old.stopped ≡ None) × (core.old.counts.clocks < 4294967295) }
     ensures { Moved P.Predictor.table I.Memory.means D.Memory.means core.old result core.new }
@@ -90,46 +97,34 @@ fn advance<P: Predictor, I: Memory, D: Memory>(core: &mut Core<P, I, D>) -> Even
     teach(&mut core.predictor, outcome_of(&core.latches.w));
     write_back(&mut core.registers, &core.latches.w);
 
-    // M and W as they were, for what decode reads of them
-    let m = core.latches.m;
-    let w = core.latches.w;
+    // what decode reads of M and W as they were
+    let m = rd_of(&core.latches.m);
+    let w = Written::of(&core.latches.w);
 
-    let asked = data_request(core.data.size(), &core.latches.m);
-    let reply = ask_or_idle(&mut core.data, sent(asked));
-    let completes = data_stage(&core.latches.m, asked, reply, &mut core.latches.w);
-
+    let completes = data_stage(&mut core.data, &core.latches.m, &mut core.latches.w);
     let executes = execute_stage(&core.latches.x, completes, &mut core.latches.m);
     let gone = dropped(&core.latches, completes, executes.flow);
-
     let decodes = decode(
         completes,
         executes.flow,
-        &m,
-        &w,
+        m,
+        w,
         &core.registers,
         &mut core.latches,
     );
-
-    let f = core.latches.f;
-    let fetch = fetching(core.instructions.size(), f, decodes);
-    let answer = ask_or_idle(&mut core.instructions, sent(fetch));
-    let arrival = arrival(&core.predictor, f, answer);
-    core.latches.f = fetch_stage(
-        f,
+    let fetch = fetch_stage(
         decodes,
-        fetch,
-        arrival,
         executes.redirect,
+        &core.predictor,
+        &mut core.instructions,
+        &mut core.memo,
+        &mut core.latches.f,
         &mut core.latches.d,
     );
 
-    count(
-        &mut core.counts,
-        has_fetched(fetch, &arrival),
-        event.retirement.is_some(),
-        gone,
-    );
-    event.clock.notes = notes(completes, executes.flow, decodes, answer);
+    let retired = event.retirement.is_some();
+    count(&mut core.counts, fetch.fetched, retired, gone);
+    event.clock.notes = notes(completes, executes.flow, decodes, fetch.waits);
     event
 }
 

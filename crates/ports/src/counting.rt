@@ -1,11 +1,9 @@
 //! What a clock counts.
 ghost use Rattle.std.specs.Prelude.{◌≡◌, ◌≤◌};
-ghost use Rattle.clocking.specs.Counting.{occupied, in_flight_count, has_fetched, if_rolled, dropped};
+ghost use Rattle.clocking.specs.Counting.{occupied, in_flight_count, if_rolled, dropped};
 
-use base::bus::Request;
-use clocking::latch::{Fetched, Latch, Latches};
+use clocking::latch::{Latch, Latches};
 use clocking::stage::Flow;
-use rv32i::cause::Cause;
 
 /// How many instructions a latch holds.
 fn occupied<T: Copy>(latch: &Latch<T>) -> u32
@@ -23,17 +21,6 @@ pub fn in_flight(latches: &Latches) -> u32
     ensures { result ≡ in_flight_count latches.now }
 {
     occupied(&latches.d) + occupied(&latches.x) + occupied(&latches.m) + occupied(&latches.w)
-}
-
-/// Whether an instruction is put into D.
-pub fn has_fetched(asked: Result<Option<Request>, Cause>, arrival: &Option<Fetched>) -> bool
-    ensures { result ≡ has_fetched asked arrival.now }
-{
-    // a match, as the rule tells the cases apart: a fault is put into D too
-    match asked {
-        Err(_) => true,
-        Ok(request) => request.is_some() && arrival.is_some(),
-    }
 }
 
 /// What a rollback removes of a latch that holds so many.

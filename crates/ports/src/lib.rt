@@ -1,4 +1,4 @@
-//! What a clock asks of the memories and the predictor, and what it counts and tells.
+//! What a clock asks of the predictor, and what it counts and tells.
 #![tactic(auto)]
 
 pub mod asking;

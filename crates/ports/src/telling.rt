@@ -2,12 +2,11 @@
 ghost use Rattle.std.specs.Prelude.{◌≡◌, false, ◌&&◌};
 ghost use Rattle.clocking.specs.Clock.{clock_record};
 ghost use Rattle.ports.specs.Telling.{AddressOf};
-ghost use Rattle.clocking.specs.Counting.{stays, moves, rolls_back, is_wait};
+ghost use Rattle.clocking.specs.Counting.{stays, moves, rolls_back};
 
 use clocking::latch::{Latch, Latches};
 use clocking::stage::Flow;
 use clocking::state::{ClockRecord, Notes};
-use memory::{Reply, Unserved};
 
 /// The address of what a latch holds; where it is full, `address` gives it.
 fn address_of<T: Copy, F: FnOnce(T) -> u32>(latch: &Latch<T>, address: F) -> Option<u32>
@@ -42,13 +41,13 @@ pub const STOP: Notes = Notes {
     ..Notes::NONE
 };
 
-/// The notes of a clock that moves on, by what became of M, X and D and the instruction memory's answer. A hazard keeps D
-/// where X moved on.
-pub fn notes(data: Flow, execute: Flow, decode: Flow, answer: Option<Reply>) -> Notes
-    ensures { result ≡ record { fetch_wait = is_wait answer; hazard = moves execute && stays decode; data_wait = stays «data»; rollback = rolls_back decode; stop = false } }
+/// The notes of a clock that moves on, by what became of M, X and D and whether the instruction memory said Wait. A hazard
+/// keeps D where X moved on.
+pub fn notes(data: Flow, execute: Flow, decode: Flow, fetch_wait: bool) -> Notes
+    ensures { result ≡ record { fetch_wait = fetch_wait; hazard = moves execute && stays decode; data_wait = stays «data»; rollback = rolls_back decode; stop = false } }
 {
     Notes {
-        fetch_wait: answer == Some(Err(Unserved::Wait)),
+        fetch_wait,
         hazard: execute == Flow::Moves && decode == Flow::Stays,
         data_wait: data == Flow::Stays,
         rollback: decode == Flow::RollsBack,

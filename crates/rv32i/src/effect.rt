@@ -2,7 +2,7 @@
 //! what it makes of the answer.
 ghost use Rattle.std.specs.Prelude.{◌≡◌, ◌<◌};
 ghost use Rattle.rv32i.specs.Causes.{Gives};
-ghost use Rattle.rv32i.specs.Effects.{first_source, second_source, destination, arithmetic, immediate_op, shift_op, holds, goes_on, jumps, branches, executed, access, lanes_of, width, misaligned, outside, request, extracted, loaded};
+ghost use Rattle.rv32i.specs.Effects.{first_source, second_source, destination, arithmetic, immediate_op, shift_op, holds, goes_on, jumps, branches, access, lanes_of, width, misaligned, outside, request, extracted, loaded};
 
 use crate::cause::Cause;
 use crate::instruction::{
@@ -33,7 +33,7 @@ pub enum Access {
 impl Instruction {
     /// The first register that it reads; none for one that reads none, and for x0.
     #[tactic(auto, unfolding(crate::specs::Effects::first_source))]
-    pub fn first_source(self) -> Option<Register>
+    pub(crate) fn first_source(self) -> Option<Register>
         ensures { result ≡ first_source self }
     {
         match self {
@@ -55,7 +55,7 @@ impl Instruction {
 
     /// The second register that it reads: only branches, stores and register arithmetic have one.
     #[tactic(auto, unfolding(crate::specs::Effects::second_source))]
-    pub fn second_source(self) -> Option<Register>
+    pub(crate) fn second_source(self) -> Option<Register>
         ensures { result ≡ second_source self }
     {
         match self {
@@ -77,7 +77,7 @@ impl Instruction {
 
     /// The register that it writes, never x0.
     #[tactic(auto, unfolding(crate::specs::Effects::destination))]
-    pub fn destination(self) -> Option<Register>
+    pub(crate) fn destination(self) -> Option<Register>
         ensures { result ≡ destination self }
     {
         match self {
@@ -99,7 +99,7 @@ impl Instruction {
 
     /// How it uses the data memory, if it does.
     #[tactic(auto, unfolding(crate::specs::Effects::access))]
-    pub fn access(self) -> Option<Access>
+    pub(crate) fn access(self) -> Option<Access>
         ensures { result ≡ access self }
     {
         match self {
@@ -111,6 +111,7 @@ impl Instruction {
 }
 
 /// What is computed of two operands; a shift goes by the low five bits of the second.
+#[inline]
 pub fn arithmetic(op: RegisterOp, a: u32, b: u32) -> u32
     ensures { result ≡ arithmetic op a b }
 {
@@ -159,6 +160,7 @@ impl From<ShiftOp> for RegisterOp {
 
 impl Condition {
     /// Whether a branch with these operands is taken.
+    #[inline]
     pub fn holds(self, a: u32, b: u32) -> bool
         ensures { result ≡ holds self a b }
     {
@@ -174,7 +176,8 @@ impl Condition {
 }
 
 /// To the next instruction, with that result.
-fn goes_on(address: u32, res: u32) -> Effect
+#[inline]
+pub(crate) fn goes_on(address: u32, res: u32) -> Effect
     ensures { result ≡ goes_on address res }
 {
     Effect {
@@ -185,7 +188,8 @@ fn goes_on(address: u32, res: u32) -> Effect
 }
 
 /// To a target, unless that is no multiple of 4.
-fn jumps(res: u32, target: u32, outcome: Option<Outcome>) -> Result<Effect, Cause>
+#[inline]
+pub(crate) fn jumps(res: u32, target: u32, outcome: Option<Outcome>) -> Result<Effect, Cause>
     ensures { Gives (jumps res target outcome) result }
 {
     if target % 4 == 0 {
@@ -200,7 +204,8 @@ fn jumps(res: u32, target: u32, outcome: Option<Outcome>) -> Result<Effect, Caus
 }
 
 /// To a branch's target where it is taken, else to the next instruction.
-fn branches(address: u32, target: u32, taken: bool) -> Result<Effect, Cause>
+#[inline]
+pub(crate) fn branches(address: u32, target: u32, taken: bool) -> Result<Effect, Cause>
     ensures { Gives (branches address target taken) result }
 {
     let outcome = Some(Outcome {
@@ -216,56 +221,6 @@ fn branches(address: u32, target: u32, taken: bool) -> Result<Effect, Cause>
             next: address.wrapping_add(4),
             outcome,
         })
-    }
-}
-
-impl Instruction {
-    /// What the instruction at an address comes to, with the operands that it read.
-    #[tactic(auto, unfolding(crate::specs::Effects::executed))]
-    pub fn execute(self, address: u32, a: u32, b: u32) -> Result<Effect, Cause>
-        ensures { Gives (executed self address a b) result }
-    {
-        match self {
-            Instruction::Lui { imm, .. } => Ok(goes_on(address, imm)),
-            Instruction::Auipc { imm, .. } => Ok(goes_on(address, address.wrapping_add(imm))),
-            Instruction::Jal { offset, .. } => {
-                let target = address.wrapping_add(offset.cast_unsigned());
-                jumps(address.wrapping_add(4), target, None)
-            }
-            Instruction::Jalr { offset, .. } => {
-                let target = a.wrapping_add(offset.cast_unsigned()) / 2 * 2;
-                jumps(address.wrapping_add(4), target, None)
-            }
-            Instruction::Branch {
-                condition,
-                offset,
-                ..
-            } => {
-                let target = address.wrapping_add(offset.cast_unsigned());
-                branches(address, target, condition.holds(a, b))
-            }
-            // Loads and stores have arms of their own: one arm that binds a signed field of both gets no proof.
-            Instruction::Load { offset, .. } => Ok(goes_on(
-                address,
-                a.wrapping_add(offset.cast_unsigned()),
-            )),
-            Instruction::Store { offset, .. } => Ok(goes_on(
-                address,
-                a.wrapping_add(offset.cast_unsigned()),
-            )),
-            Instruction::Immediate { op, imm, .. } => Ok(goes_on(
-                address,
-                arithmetic(op.into(), a, imm.cast_unsigned()),
-            )),
-            Instruction::Shift { op, amount, .. } => Ok(goes_on(
-                address,
-                arithmetic(op.into(), a, u32::from(amount)),
-            )),
-            Instruction::Register { op, .. } => Ok(goes_on(address, arithmetic(op, a, b))),
-            Instruction::Fence | Instruction::Ecall | Instruction::Ebreak => Ok(goes_on(
-                address, 0,
-            )),
-        }
     }
 }
 

@@ -5,6 +5,7 @@ pub mod bytewise;
 pub mod cause;
 pub mod effect;
 pub mod instruction;
+pub mod micro_op;
 pub mod register;
 pub mod registers;
 pub mod target;

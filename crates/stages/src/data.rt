@@ -1,87 +1,110 @@
 //! The data stage: M goes to W, with the data memory's answer.
-ghost use Rattle.std.specs.Prelude.{◌≡◌};
-ghost use Rattle.rv32i.specs.Causes.{Gives};
-ghost use Rattle.clocking.specs.declared.latch.Latch.TheVariants.{Full};
-ghost use Rattle.clocking.specs.Stages.{data_request, sent, complete, data_stage};
+ghost use Rattle.std.specs.Prelude.{◌≡◌, Some};
+ghost use Rattle.memory.specs.Meaning.{of_read, of_write};
+ghost use Rattle.clocking.specs.Stages.{answered, completes_with};
+ghost use Rattle.clocking.specs.declared.latch.Latch.TheVariants.{Empty};
+ghost use Rattle.clocking.specs.declared.stage.Flow.TheVariants.{Stays};
+ghost use Rattle.stages.specs.Asking.{DataDone};
 
 use base::bus::Request;
 use clocking::latch::{Completed, Executed, Latch};
 use clocking::stage::Flow;
-use memory::{Answer, Reply, Unserved};
-use rv32i::cause::Cause;
+use memory::{Memory, Unserved};
 use rv32i::effect::{loaded, request};
 use sequential::record::Stop;
 
-/// What M asks of a data memory of that size, or the cause that its address has.
-pub fn data_request(size: u32, m: &Latch<Executed>) -> Result<Option<Request>, Cause>
-    ensures { Gives (data_request size m.now) result }
+/// An instruction goes to W with its value.
+#[inline(always)]
+fn complete(e: &Executed, value: u32, w: &mut Latch<Completed>) -> Flow
+    ensures w { w.new ≡ (completes_with e.now value).w }
+    ensures flow { result ≡ (completes_with e.now value).flow }
 {
-    match *m {
-        Latch::Full(e) => request(size, e.access, e.result, e.b),
-        Latch::Empty | Latch::Faulting(_) => Ok(None),
-    }
-}
-
-/// What a memory is asked: a cause asks nothing.
-pub fn sent(asked: Result<Option<Request>, Cause>) -> Option<Request>
-    ensures { result ≡ sent asked }
-{
-    asked.unwrap_or(None)
-}
-
-/// An instruction with its value, as it goes to W.
-fn complete(e: Executed, value: u32) -> Latch<Completed>
-    ensures { result ≡ Full (complete e value) }
-{
-    Latch::Full(Completed {
+    *w = Latch::Full(Completed {
         address: e.address,
         word: e.word,
         rd: e.rd,
         value,
         outcome: e.outcome,
-    })
+    });
+    Flow::Moves
 }
 
-/// A cause goes to W and rolls back; M waits while the memory does; all else goes to W.
-// W is filled in place, and only what became of M is handed out: no latch is copied.
-pub fn data_stage(
+/// What became of M while the memory says Wait.
+#[inline(always)]
+fn wait(w: &mut Latch<Completed>) -> Flow
+    ensures w { w.new ≡ Empty }
+    ensures flow { result ≡ Stays }
+{
+    *w = Latch::Empty;
+    Flow::Stays
+}
+
+/// What became of M by the answer to its read.
+#[inline(always)]
+fn after_read(e: &Executed, answer: Result<u32, Unserved>, w: &mut Latch<Completed>) -> Flow
+    ensures w { w.new ≡ (answered e.now (Some (of_read answer))).w }
+    ensures flow { result ≡ (answered e.now (Some (of_read answer))).flow }
+{
+    match answer {
+        Ok(word) => complete(e, loaded(e.access, e.result, word), w),
+        Err(Unserved::Wait) => wait(w),
+        Err(Unserved::Outside) => complete(e, e.result, w),
+    }
+}
+
+/// What became of M by the answer to its write.
+#[inline(always)]
+fn after_write(e: &Executed, answer: Result<(), Unserved>, w: &mut Latch<Completed>) -> Flow
+    ensures w { w.new ≡ (answered e.now (Some (of_write answer))).w }
+    ensures flow { result ≡ (answered e.now (Some (of_write answer))).flow }
+{
+    match answer {
+        Err(Unserved::Wait) => wait(w),
+        Ok(()) | Err(Unserved::Outside) => complete(e, e.result, w),
+    }
+}
+
+/// A cause goes to W and rolls back; M waits while the memory does; all else goes to W. The memory is asked what M asks, or
+/// passes the clock idle.
+#[inline(always)]
+#[tactic(auto, using(crate::proofs::Asking::data_idle, crate::proofs::Asking::data_refused, crate::proofs::Asking::data_free, crate::proofs::Asking::data_asked))]
+pub fn data_stage<D: Memory>(
+    data: &mut D,
     m: &Latch<Executed>,
-    asked: Result<Option<Request>, Cause>,
-    reply: Option<Reply>,
     w: &mut Latch<Completed>,
 ) -> Flow
-    ensures w { w.new ≡ (data_stage m.now asked reply).w }
-    ensures flow { result ≡ (data_stage m.now asked reply).flow }
+    ensures { DataDone D.Memory.means m.now «data».old «data».new w.new result }
 {
-    match *m {
+    match m {
         Latch::Empty => {
+            data.idle();
             *w = Latch::Empty;
             Flow::Moves
         }
         Latch::Faulting(stop) => {
-            *w = Latch::Faulting(stop);
+            data.idle();
+            *w = Latch::Faulting(*stop);
             Flow::RollsBack
         }
-        Latch::Full(e) => match (asked, reply) {
-            (Err(cause), _) => {
+        Latch::Full(e) => match request(data.size(), e.access, e.result, e.b) {
+            Err(cause) => {
+                data.idle();
                 *w = Latch::Faulting(Stop {
                     address: e.address,
                     cause,
                 });
                 Flow::RollsBack
             }
-            (Ok(_), Some(Err(Unserved::Wait))) => {
-                *w = Latch::Empty;
-                Flow::Stays
+            Ok(None) => {
+                data.idle();
+                complete(e, e.result, w)
             }
-            (Ok(_), Some(Ok(Answer::Word(word)))) => {
-                *w = complete(e, loaded(e.access, e.result, word));
-                Flow::Moves
-            }
-            (Ok(_), None | Some(Ok(Answer::Done) | Err(Unserved::Outside))) => {
-                *w = complete(e, e.result);
-                Flow::Moves
-            }
+            Ok(Some(Request::Read { address })) => after_read(e, data.read(address), w),
+            Ok(Some(Request::Write {
+                address,
+                word,
+                lanes,
+            })) => after_write(e, data.write(address, word, lanes), w),
         },
     }
 }

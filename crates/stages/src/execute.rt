@@ -19,6 +19,7 @@ impl From<Flow> for Executing {
     ghost from_gives = { λ flow e. e ≡ record { flow = flow; redirect = None } };
 
     /// With no wrong guess.
+    #[inline(always)]
     fn from(flow: Flow) -> Executing {
         Executing {
             flow,
@@ -28,8 +29,9 @@ impl From<Flow> for Executing {
 }
 
 /// What the instruction comes to, or why it may not.
-pub fn execute(d: Decoded) -> Result<Executed, Cause>
-    ensures { Gives (execute d) result }
+#[inline(always)]
+pub fn execute(d: &Decoded) -> Result<Executed, Cause>
+    ensures { Gives (execute d.now) result }
 {
     let effect = d.instruction.execute(d.address, d.a, d.b)?;
     Ok(Executed {
@@ -45,6 +47,7 @@ pub fn execute(d: Decoded) -> Result<Executed, Cause>
 }
 
 /// What becomes of a latch before which nothing moves: it stays, unless it is empty.
+#[inline(always)]
 pub(crate) fn held_up<T: Copy>(latch: &Latch<T>) -> Flow
     ensures { result ≡ held_up latch.now }
 {
@@ -56,7 +59,7 @@ pub(crate) fn held_up<T: Copy>(latch: &Latch<T>) -> Flow
 
 /// X is dropped after a rollback and stays while M stays; else it goes to M, and rolls back what was fetched after it where
 /// its true next address is not the guessed one.
-// M is filled in place, where it does not stay.
+#[inline(always)]
 pub fn execute_stage(x: &Latch<Decoded>, flow: Flow, m: &mut Latch<Executed>) -> Executing
     ensures m { m.new ≡ (execute_stage m.old x.now flow).m }
     ensures flow { result.flow ≡ (execute_stage m.old x.now flow).flow }
@@ -68,13 +71,13 @@ pub fn execute_stage(x: &Latch<Decoded>, flow: Flow, m: &mut Latch<Executed>) ->
             Flow::RollsBack.into()
         }
         Flow::Stays => held_up(x).into(),
-        Flow::Moves => match *x {
+        Flow::Moves => match x {
             Latch::Empty => {
                 *m = Latch::Empty;
                 Flow::Moves.into()
             }
             Latch::Faulting(stop) => {
-                *m = Latch::Faulting(stop);
+                *m = Latch::Faulting(*stop);
                 Flow::Moves.into()
             }
             Latch::Full(d) => match execute(d) {

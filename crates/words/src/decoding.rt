@@ -13,6 +13,7 @@ use rv32i::cause::Cause;
 use rv32i::instruction::{
     Condition, ImmediateOp, Instruction, LoadKind, Operation, RegisterOp, ShiftOp, StoreKind,
 };
+use rv32i::micro_op::MicroOp;
 
 /// The words whose bits under the mask are the value hold the operation.
 #[derive(Clone, Copy)]
@@ -322,15 +323,15 @@ pub fn decode(word: u32) -> Option<Instruction>
     operation_of(word).map(|operation| take_apart(operation, word))
 }
 
-/// The instruction that a word issues, or why it issues none: an illegal word, `ebreak` and `ecall` stop the machine.
+/// The instruction that a word issues, laid out flat, or why it issues none: an illegal word, `ebreak` and `ecall` stop the machine.
 #[tactic(auto, unfolding(crate::specs::Issues::issued))]
-pub fn issue(word: u32) -> Result<Instruction, Cause>
+pub fn issue(word: u32) -> Result<MicroOp, Cause>
     ensures { Gives (issued word) result }
 {
     let instruction = decode(word).ok_or(Cause::Illegal)?;
     match instruction {
         Instruction::Ebreak => Err(Cause::Breakpoint),
         Instruction::Ecall => Err(Cause::EnvironmentCall),
-        _ => Ok(instruction),
+        _ => Ok(instruction.into()),
     }
 }

@@ -5,3 +5,4 @@ pub mod decoding;
 pub mod encoding;
 mod field;
 mod fields;
+pub mod memo;

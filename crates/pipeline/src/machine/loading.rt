@@ -12,6 +12,7 @@ use clocking::state::Core;
 use memory::{Memory, is_within};
 use predictor::Predictor;
 use rv32i::registers::Registers;
+use words::memo::Memo;
 
 /// Whether a machine can be loaded so; refused where the serial is above 65535, or the start no multiple of 4 or outside the
 /// instruction memory.
@@ -63,6 +64,7 @@ pub fn load<P: Predictor, I: Memory, D: Memory>(
                 dropped: 0,
             },
             stopped: None,
+            memo: Memo::new(),
             predictor,
             instructions,
             data,

@@ -13,5 +13,5 @@ returns g c =
     let text = g.I.Memory.means in
     let words = g.D.Memory.means in
     IfOk-weaker c.report.result (λ t. string_bytes t ≡ report_text s w c.outcomes_of.result) (λ t. Shown table text words s w c.args.assembly.now.machine (string_bytes t))
-    (λ t e. unlogged_shown table text words s w c.args.assembly.now.machine c.run_to.new.machine c.new-gaps.result c.run_to.new.gaps c.outcomes_of.result (string_bytes t) c.requires c.new-gaps.ensures c.run_to.ensures c.outcomes_of.ensures e)
+    (λ t e. unlogged_shown table text words s w c.args.assembly.now.machine c.run_to.new.machine c.new-gaps.result c.run_to.new.gaps c.outcomes_of.result (string_bytes t) c.requires c.new-gaps.ensures c.run_to.ensures.ran c.outcomes_of.ensures e)
     c.report.ensures

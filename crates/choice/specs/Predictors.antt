@@ -1,5 +1,6 @@
 -- A predictor that is chosen at run time: its table is that of the chosen one. Assumes nothing.
 use Rattle.predictor.specs.Counting.{fresh}
+use Rattle.predictor.specs.States.{bimodal_table, gshare_table, tournament_table}
 use Rattle.predictor.specs.Tables.{Table, never, backward, bimodal, gshare, tournament}
 use Rattle.predictor.specs.declared.backward.Backward.{Backward}
 use Rattle.predictor.specs.declared.bimodal.Bimodal.{Bimodal}
@@ -30,10 +31,10 @@ chosen_by s t (IsTournament p) = t p
 -- ---- the tables of those that a run can have
 
 abbrev pub simple_table : Simple Never Backward Bimodal Gshare → Table
-simple_table = simple_by (λ _. never) (λ _. backward) (λ b. bimodal b.counters.values) (λ g. gshare g.counters.values g.history.bits)
+simple_table = simple_by (λ _. never) (λ _. backward) bimodal_table gshare_table
 
 abbrev pub chosen_table : Chosen (Simple Never Backward Bimodal Gshare) (Tournament (Simple Never Backward Bimodal Gshare) (Simple Never Backward Bimodal Gshare)) → Table
-chosen_table = chosen_by simple_table (λ t. tournament t.choosers.values (simple_table t.first) (simple_table t.second))
+chosen_table = chosen_by simple_table (tournament_table simple_table simple_table)
 
 -- ---- the table of the fresh predictor of a name
 

@@ -1,9 +1,9 @@
 -- Stacks of memories that are chosen at run time, and the memory that is asked then. Assumes nothing.
-use Rattle.std.specs.Prelude.{◌≡◌, ℕ, ◌%◌, Bool, true, false, cond, ◌&&◌, ◌||◌, is_some, Ok, Err, box_value, vec_items, vec_len, Result, Vec, slice_index}
+use Rattle.std.specs.Prelude.{◌≡◌, ℕ, ◌%◌, Bool, true, false, if◌then◌else◌, ◌&&◌, ◌||◌, is_some, box_value, vec_items, vec_len, Result, Vec, slice_index}
 use Rattle.std.specs.declared.alloc.Global.{Global}
-use Rattle.base.specs.Refusals.{number, Says}
+use Rattle.base.specs.Failures.{FailureSays}
+use Rattle.base.specs.Refusals.{Says}
 use Rattle.base.specs.declared.failure.Failure.{Failure}
-use Rattle.base.specs.declared.failure.Failure.TheVariants.{Refused, OutOfMemory}
 use Rattle.base.specs.declared.refusal.Refusal.{Refusal}
 use Rattle.memory.specs.declared.flat.Flat.{Flat}
 use Rattle.memory.specs.Flat.{flat_fits, flat_means}
@@ -55,9 +55,14 @@ pub record Built (bytes : Vec ℕ Global) (choice : StackChoice) (s : Layer (Lay
   pub byte : (x : ℕ) → stack_view.byte s x ≡ slice_index (vec_items bytes) x % 256
   pub longest : stack_view.longest s ≡ stack_wait choice
 
--- The answer to these bytes and this choice: the stack, or number 1 where a flat memory cannot have so many bytes, else number 2 where a layer does not fit.
+-- The number of a refusal: 1 where a flat memory cannot have so many bytes, else 2 where a layer does not fit.
+abbrev pub Unfit : Vec ℕ Global → StackChoice → ℕ → Type 0
+Unfit bytes choice why =
+    (why ≡ (if flat_fits (vec_len bytes) then 2 else 1)) × (stack_fits bytes choice ≡ false)
+
+-- the answer to these bytes and this choice
 abbrev pub Answered : Vec ℕ Global → StackChoice → Result (Layer (Layer (Layer Flat))) Refusal → Type 0
-Answered bytes choice = Says (Built bytes choice) (λ why. (why ≡ cond (flat_fits (vec_len bytes)) 2 1) × (stack_fits bytes choice ≡ false))
+Answered bytes choice = Says (Built bytes choice) (Unfit bytes choice)
 
 -- ---- the memory that is asked: a flat one where no layer is chosen, else a stack on the heap
 
@@ -84,8 +89,8 @@ pub record Chosen (bytes : Vec ℕ Global) (choice : StackChoice) (m : ChosenMem
   pub byte : (x : ℕ) → chosen_means.view.byte m x ≡ slice_index (vec_items bytes) x % 256
   pub longest : chosen_means.view.longest m ≡ stack_wait choice
 
--- The answer to these bytes and this choice: the memory, or the refusal of the stack; that there is no room on the heap is no refusal.
+-- The answer to these bytes and this choice: the memory, or the refusal of the stack. There may be no room on the heap only where a layer is chosen and all of them fit.
 abbrev pub ChosenAnswer : Vec ℕ Global → StackChoice → Result ChosenMemory Failure → Type 0
-ChosenAnswer bytes choice (Ok m) = Chosen bytes choice m
-ChosenAnswer bytes choice (Err (Refused why)) = (number why ≡ cond (flat_fits (vec_len bytes)) 2 1) × (stack_fits bytes choice ≡ false)
-ChosenAnswer bytes choice (Err (OutOfMemory error)) = Unit {0}
+ChosenAnswer bytes choice =
+    FailureSays (Chosen bytes choice) (Unfit bytes choice)
+    ((has_layers choice ≡ true) × (stack_fits bytes choice ≡ true))

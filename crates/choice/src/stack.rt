@@ -26,7 +26,8 @@ pub fn build(bytes: Vec<u8>, choice: StackChoice) -> Result<Stack, Refusal>
 /// A flat memory, or a stack on the heap.
 pub type ChosenMemory = Placed<Flat, Stack>;
 
-/// The chosen memory of these bytes: a flat one where no layer is chosen, else the stack. Refused where the stack is.
+/// The chosen memory of these bytes: a flat one where no layer is chosen, else the stack. Refused where the stack is. Memory is
+/// asked for only where a layer is chosen.
 pub fn choose(heap: Global, bytes: Vec<u8>, choice: StackChoice) -> Result<ChosenMemory, Failure>
     ensures { ChosenAnswer bytes choice result }
 {

@@ -361,7 +361,7 @@ module _ {P I D : Type 0} (table : Table P) (instructions : Meaning I) (words : 
   -- a machine that has just been loaded
   pub record Fresh : Type 0 where
     pub latches : first.latches ≡ record { f = first.latches.f; d = Empty; x = Empty; m = Empty; w = Empty }
-    pub sized : length first.registers.values ≡ 32
+    pub sized : length first.registers ≡ 32
     pub stopped : first.stopped ≡ None
     pub clocks : first.counts.clocks ≡ 0
     pub fetched : first.counts.fetched ≡ 0

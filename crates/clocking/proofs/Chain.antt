@@ -94,7 +94,7 @@ module _ (world : World) where
 
   -- s is the sequential machine's state after the retirements
   pub record Chain (s : State) (bytes : ℕ → ℕ) (g : Registers) (k : Latches) : Type 0 where
-    pub sized : length g.values ≡ 32
+    pub sized : length g ≡ 32
     pub registers : g ≡ s.registers
     pub w : HoldsW (Ok s) k.w
     pub memory : bytes ≡ bytes_at s (behindW (Ok s) k.w)

@@ -9,6 +9,7 @@ use Rattle.clocking.specs.declared.latch.Latch.{Latch}
 use Rattle.clocking.specs.declared.latch.Latch.TheVariants.{Empty, Faulting, Full}
 use Rattle.clocking.specs.declared.stage.Flow.{Flow}
 use Rattle.clocking.specs.declared.stage.Flow.TheVariants.{Moves, Stays, RollsBack}
+use Rattle.rv32i.proofs.Laws.{first_not_x0, second_not_x0}
 use Rattle.rv32i.specs.Effects.{first_source, second_source}
 use Rattle.words.specs.Issues.{issued}
 use Rattle.rv32i.specs.Registers.{operand}
@@ -87,7 +88,7 @@ module _ (world : World) where
 
     by_word : (s : State) (f : Fetched) → WordOf s f → KnownRead reads (Ok s) → (o : Result Instruction Cause) → f.issued ≡ o → DecodeKept (Ok s) (Ok s) (Full f) u (decode_word reads f o)
     by_word s f z k (Err c) q = record { x = (z.here, issues_none s f c z q); rests = ends_if s c f.guess (issues_none s f c z q) }
-    by_word s f z k (Ok i) q = both s f i z q (source reads (first_source i)) (source reads (second_source i)) (k (first_source i)) (k (second_source i))
+    by_word s f z k (Ok i) q = both s f i z q (source reads (first_source i)) (source reads (second_source i)) (λ v. k (first_source i) v (first_not_x0 i)) (λ v. k (second_source i) v (second_not_x0 i))
 
     both_broken : (c : Cause) (f : Fetched) (i : Instruction) (x y : Option ℕ) → DecodeKept (Err c) (Err c) (Full f) u (with_operands f i x y)
     both_broken c f i (Some a) (Some b) = record { x = tt; rests = refl }

@@ -1,8 +1,9 @@
 -- Registers read through the latches, and what the parts of a step say of one another. Assumes nothing.
-use Rattle.std.proofs.Common.{◌≡◌, ℕ, ◌*◌, ◌%◌, ◌^◌, ◌<◌, Bool, true, false, cond, eqb, ltb, List, length, get_or, set, Some, None, Ok, Err, Option, Result, sym, refl, ◌∙◌, arith, length-set, get_or-set_other, get_or-set_same, eqb-true}
+use Rattle.std.proofs.Common.{◌≡◌, ℕ, ◌*◌, ◌%◌, ◌^◌, ◌<◌, Bool, true, false, cond, eqb, ltb, ◌≢◌, List, length, get_or, set, Some, None, Ok, Err, Option, Result, sym, refl, ◌∙◌, arith, length-set, get_or-set_other, get_or-set_same, eqb-true}
 use borrow.Author.Tests.{eqb-false}
 use Rattle.base.specs.declared.bus.Request.{Request}
 use Rattle.base.specs.declared.bus.Request.TheVariants.{Read, Write}
+use Rattle.rv32i.proofs.Laws.{NotX0}
 use Rattle.rv32i.specs.Effects.{load_width, store_width, word_address, lanes_of, request}
 use Rattle.words.specs.Issues.{issued}
 use Rattle.rv32i.specs.declared.cause.Cause.TheVariants.{LoadMisaligned, LoadOutside, StoreMisaligned, StoreOutside}
@@ -24,21 +25,39 @@ use Rattle.clocking.proofs.Partial.{operated, Done, settled_by, settle, moved, d
 
 -- ---- registers
 
-pub read_by : (l : List ℕ) (i j w : ℕ) → i < length l → (b : Bool) → eqb i j ≡ b → get_or (set l i w) j 0 ≡ cond b w (get_or l j 0)
+read_by : (l : List ℕ) (i j w : ℕ) → i < length l → (b : Bool) → eqb i j ≡ b → get_or (set l i w) j 0 ≡ cond b w (get_or l j 0)
 read_by l i j w h true e = rw (← eqb-true i j e) (get_or-set_same l i w 0 h)
 read_by l i j w h false e = get_or-set_other l i j w 0 (λ q. eqb-false i j e (sym q))
 
 abbrev pub Sized : Registers → Type 0
-Sized g = length g.values ≡ 32
+Sized g = length g ≡ 32
+
+sized_by : (b : Bool) (g : Registers) (i w : ℕ) → Sized g → Sized (cond b g (set g i w))
+sized_by true g i w h = h
+sized_by false g i w h = length-set g i w ∙ h
 
 pub written_sized : (g : Registers) (rd : Option Register) (w : ℕ) → Sized g → Sized (written g rd w)
 written_sized g None w h = h
-written_sized g (Some r) w h = length-set g.values r.number w ∙ h
+written_sized g (Some r) w h = sized_by (eqb r.number 0) g r.number w h
 
--- what the latches before a reader say of each register is right for the state reached, where they say a value
+-- a write to x0 changes nothing, so that any other register is read after it as before
+unwritten : (i j w x : ℕ) → i ≡ 0 → j ≢ 0 → (b : Bool) → eqb i j ≡ b → x ≡ cond b w x
+unwritten i j w x z n true e = absurd (n (sym (eqb-true i j e) ∙ z))
+unwritten i j w x z n false e = refl
+
+read_when : (g : Registers) (i j w : ℕ) → i < length g → j ≢ 0 → (b : Bool) → eqb i 0 ≡ b
+    → get_or (cond b g (set g i w)) j 0 ≡ cond (eqb i j) w (get_or g j 0)
+read_when g i j w h n true e = unwritten i j w (get_or g j 0) (eqb-true i 0 e) n (eqb i j) refl
+read_when g i j w h n false e = read_by g i j w h (eqb i j) refl
+
+pub written_read : (g : Registers) (d r : Register) (w : ℕ) → Sized g → r.number ≢ 0
+    → value_of (written g (Some d) w) r ≡ cond (eqb d.number r.number) w (value_of g r)
+written_read g d r w z n = let small = d.ok in read_when g d.number r.number w (omega arith) n (eqb d.number 0) refl
+
+-- what the latches before a reader say of each register but x0 is right for the state reached, where they say a value
 abbrev pub Known : (Register → Option ℕ) → Reach → Type 0
 Known f (Err c) = Unit {0}
-Known f (Ok s) = Sized s.registers × ((r : Register) (v : ℕ) → f r ≡ Some v → v ≡ value_of s.registers r)
+Known f (Ok s) = Sized s.registers × ((r : Register) (v : ℕ) → r.number ≢ 0 → f r ≡ Some v → v ≡ value_of s.registers r)
 
 -- a latch that writes rd before those that f has
 abbrev pub layer : Option Register → Option ℕ → (Register → Option ℕ) → Register → Option ℕ
@@ -48,27 +67,25 @@ layer_by : (b : Bool) (o q : Option ℕ) (w x v : ℕ) → ((u : ℕ) → o ≡ 
 layer_by true o q w x v h k e = h v e
 layer_by false o q w x v h k e = k e
 
-layer_read : (rd : Option Register) (o : Option ℕ) (f : Register → Option ℕ) (g : Registers) (w : ℕ) (r : Register) (v : ℕ) → Sized g → ((u : ℕ) → o ≡ Some u → u ≡ w)
+layer_read : (rd : Option Register) (o : Option ℕ) (f : Register → Option ℕ) (g : Registers) (w : ℕ) (r : Register) (v : ℕ) → Sized g → r.number ≢ 0 → ((u : ℕ) → o ≡ Some u → u ≡ w)
     → (f r ≡ Some v → v ≡ value_of g r) → layer rd o f r ≡ Some v → v ≡ value_of (written g rd w) r
-layer_read None o f g w r v z h k e = k e
-layer_read (Some d) o f g w r v z h k e =
-    let small = d.ok in
-    layer_by (eqb d.number r.number) o (f r) w (value_of g r) v h k e
-    ∙ sym (read_by g.values d.number r.number w (omega arith) (eqb d.number r.number) refl)
+layer_read None o f g w r v z n h k e = k e
+layer_read (Some d) o f g w r v z n h k e =
+    layer_by (eqb d.number r.number) o (f r) w (value_of g r) v h k e ∙ sym (written_read g d r w z n)
 
 pub known_layer : (f : Register → Option ℕ) (s t : State) (rd : Option Register) (o : Option ℕ) (w : ℕ) → t.registers ≡ written s.registers rd w
     → ((u : ℕ) → o ≡ Some u → u ≡ w) → Known f (Ok s) → Known (layer rd o f) (Ok t)
 known_layer f s t rd o w e h k =
-    (rw e (written_sized s.registers rd w k.0), λ r v q. rw e (layer_read rd o f s.registers w r v k.0 h (k.1 r v) q))
+    (rw e (written_sized s.registers rd w k.0), λ r v n q. rw e (layer_read rd o f s.registers w r v k.0 n h (k.1 r v n) q))
 
 -- the same of what an instruction reads, of which x0 is no part
 abbrev pub KnownRead : (Register → Option ℕ) → Reach → Type 0
 KnownRead f (Err c) = Unit {0}
-KnownRead f (Ok s) = (o : Option Register) (v : ℕ) → source f o ≡ Some v → v ≡ operand s.registers o
+KnownRead f (Ok s) = (o : Option Register) (v : ℕ) → NotX0 o → source f o ≡ Some v → v ≡ operand s.registers o
 
-known_source : (f : Register → Option ℕ) (s : State) → Known f (Ok s) → (o : Option Register) (v : ℕ) → source f o ≡ Some v → v ≡ operand s.registers o
-known_source f s k None v e = cc
-known_source f s k (Some r) v e = k.1 r v e
+known_source : (f : Register → Option ℕ) (s : State) → Known f (Ok s) → (o : Option Register) (v : ℕ) → NotX0 o → source f o ≡ Some v → v ≡ operand s.registers o
+known_source f s k None v n e = cc
+known_source f s k (Some r) v n e = k.1 r v n e
 
 pub known_read : (f : Register → Option ℕ) (r : Reach) → Known f r → KnownRead f r
 known_read f (Err c) k = tt

@@ -1,5 +1,5 @@
 -- One clock keeps the chain. Assumes nothing.
-use Rattle.std.proofs.Common.{◌≡◌, ℕ, Bool, true, false, cond, eqb, Some, None, Ok, Err, Option, sym, refl, ap, ◌∙◌, subst, arith}
+use Rattle.std.proofs.Common.{◌≡◌, ℕ, Bool, true, false, cond, eqb, ◌≢◌, Some, None, Ok, Err, Option, sym, refl, ap, ◌∙◌, subst}
 use Rattle.memory.specs.Meaning.{Reply}
 use Rattle.rv32i.specs.declared.register.Register.{Register}
 use Rattle.sequential.specs.Sequential.{State, World}
@@ -21,7 +21,7 @@ use Rattle.clocking.proofs.Data.{Back, left, DataKept, data_kept}
 use Rattle.clocking.proofs.Decode.{SourcedRead, DecodeKept, decode_kept}
 use Rattle.clocking.proofs.Execute.{Sourced, ExecuteKept, execute_kept}
 use Rattle.clocking.proofs.Fetch.{Arrives, FetchKept, fetch_kept}
-use Rattle.clocking.proofs.Forward.{read_by, Sized, written_sized, Known, known_read, Pairs, pairs}
+use Rattle.clocking.proofs.Forward.{written_read, Sized, written_sized, Known, known_read, Pairs, pairs}
 use Rattle.clocking.proofs.Partial.{completed_at, after_at}
 use Rattle.clocking.proofs.Served.{Bytes}
 
@@ -34,13 +34,12 @@ again : (b : Bool) (x w y : ℕ) → x ≡ cond b w y → x ≡ cond b w x
 again true x w y h = h
 again b x w y h = refl
 
-retired_read : (g : Registers) (rd : Option Register) (w : ℕ) → Sized g → (r : Register) (v : ℕ)
+retired_read : (g : Registers) (rd : Option Register) (w : ℕ) → Sized g → (r : Register) (v : ℕ) → r.number ≢ 0
     → or_else (cond (gives rd r) (Some (Some w)) None) (Some (value_of (written g rd w) r)) ≡ Some v → v ≡ value_of (written g rd w) r
-retired_read g None w z r v e = cc
-retired_read g (Some d) w z r v e =
-    let small = d.ok in
+retired_read g None w z r v n e = cc
+retired_read g (Some d) w z r v n e =
     retired_by (eqb d.number r.number) w (value_of (written g (Some d) w) r) v
-    (again (eqb d.number r.number) _ w (value_of g r) (read_by g.values d.number r.number w (omega arith) (eqb d.number r.number) refl)) e
+    (again (eqb d.number r.number) _ w (value_of g r) (written_read g d r w z n)) e
 
 sourced_read : (flow : Flow) (f : Register → Option ℕ) (r : Reach) → Sourced flow f r → SourcedRead flow f r
 sourced_read Moves f r k = known_read f r k
@@ -77,7 +76,7 @@ module _ (world : World) where
           registers = same;
           base = (
             subst Sized same (written_sized g c.rd c.value k.sized),
-            λ r v e. retired_read g c.rd c.value k.sized r v e ∙ ap (λ z. value_of z r) same,
+            λ r v n e. retired_read g c.rd c.value k.sized r v n e ∙ ap (λ z. value_of z r) same,
           );
           memory = rw q at k.memory;
           m = subst (λ (z : Reach). HoldsM world z m) q k.m;
@@ -98,7 +97,7 @@ module _ (world : World) where
       record {
         sized = k.sized;
         registers = k.registers;
-        base = (subst Sized k.registers k.sized, λ r v e. let z : v ≡ value_of g r = cc in z ∙ ap (λ y. value_of y r) k.registers);
+        base = (subst Sized k.registers k.sized, λ r v n e. let z : v ≡ value_of g r = cc in z ∙ ap (λ y. value_of y r) k.registers);
         memory = k.memory;
         m = k.m;
         x = k.x;

@@ -10,6 +10,9 @@ pub mod Forward
 pub mod Histories
 pub mod Keeps
 pub mod Pace
+pub mod LawsFlow
+pub mod Laws
+pub mod LawsFlight
 pub mod Link
 pub mod Partial
 pub mod Served

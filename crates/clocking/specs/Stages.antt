@@ -154,7 +154,7 @@ or_else None y = y
 or_else (Some x) y = x
 
 abbrev pub value_of : Registers → Register → ℕ
-value_of g r = slice_index g.values r.number
+value_of g r = slice_index g r.number
 
 -- the youngest that writes the register gives it: X, then M, then W, else the register file
 abbrev pub values_in_flight : Latch Executed → Latch Executed → Latch Completed → Latch Completed → Registers → Register → Option ℕ

@@ -1,9 +1,10 @@
 //! One clock.
 #![tactic(auto)]
 
-ghost use Rattle.std.specs.Prelude.{◌≡◌, ◌<◌, None};
+ghost use Rattle.std.specs.Prelude.{◌≡◌, ◌<◌, None, IfSome};
 ghost use Rattle.clocking.specs.Clock.{Moved, Halted};
 ghost use Rattle.clocking.specs.Counting.{Counted};
+ghost use Rattle.clocking.specs.Laws.{ClockLaws};
 ghost use Rattle.cycle.specs.Cycles.{Cycles, decoded, with_x};
 
 use clocking::counts::Counts;
@@ -135,7 +136,9 @@ fn advance<P: Predictor, I: Memory, D: Memory>(core: &mut Core<P, I, D>) -> Even
 /// One clock: what it does to the core, and what it tells. A core that has stopped or has made all its clocks stays as it
 /// is, and tells nothing.
 pub fn checked_cycle<P: Predictor, I: Memory, D: Memory>(core: &mut Core<P, I, D>) -> Option<Event>
-    ensures { Cycles P.Predictor.table I.Memory.means D.Memory.means core.old result core.new }
+    ensures cycles { Cycles P.Predictor.table I.Memory.means D.Memory.means core.old result core.new }
+    ensures laws { IfSome result (λ e.
+        ClockLaws P.Predictor.table I.Memory.means D.Memory.means core.old e core.new) }
 {
     if core.stopped.is_some() || core.counts.clocks == u32::MAX {
         return None;

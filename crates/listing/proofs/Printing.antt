@@ -19,11 +19,11 @@ pub world_is : (image : List ℕ) (i d : Flat) → vec_items i.bytes ≡ image �
     → ◌≡◌ {A = World} (record { text_size = flat_view.size i; text = flat_view.byte i; data_size = flat_view.size d }) (world_for image)
 world_is image i d b n m = λ k. record { text_size = n k; text = λ x. get_or (b k) x 0 % 256; data_size = m k }
 
-pub begin_is : (a : ℕ) (f : Registers) (d : Flat) → a ≡ 0 → f.values ≡ replicate 32 0 → vec_items d.bytes ≡ replicate 4096 0
+pub begin_is : (a : ℕ) (f : Registers) (d : Flat) → a ≡ 0 → f ≡ replicate 32 0 → vec_items d.bytes ≡ replicate 4096 0
     → ◌≡◌ {A = State} (record { address = a; registers = f; bytes = flat_view.byte d }) begin
 begin_is a f d e v b =
     let none : (x : ℕ) → flat_view.byte d x ≡ 0 = λ x. ap (λ (l : List ℕ). get_or l x 0 % 256) b ∙ ap (λ (n : ℕ). n % 256) (zeros_at 4096 x) in
-    λ k. record { address = e k; registers = record { values = v k }; bytes = fun_ext none k }
+    λ k. record { address = e k; registers = v k; bytes = fun_ext none k }
 
 pub ran_at : (w v : World) (o p : Option Stop) (s t : State) (m n : ℕ) (h l : List Retired) (r : Option Stop) (u : State) (after : List Retired) → w ≡ v → o ≡ p → s ≡ t → m ≡ n → h ≡ l
     → Ran w o s m h r u after → Ran v p t n l r u after

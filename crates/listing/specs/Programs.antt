@@ -1,14 +1,13 @@
 -- What is printed of a program from beginning to end. Assumes nothing.
-use Rattle.std.specs.Prelude.{◌≡◌, ℕ, ◌-◌, ◌%◌, ◌<◌, ◌≤◌, List, [], ◌++◌, length, replicate, None, Ok, Err, string_bytes, Option, Result, String, slice_index}
+use Rattle.std.specs.Prelude.{◌≡◌, ℕ, ◌%◌, ◌≤◌, List, [], length, replicate, None, string_bytes, Option, Result, String, slice_index}
 use Rattle.std.specs.declared.alloc.Global.{Global}
-use Rattle.base.specs.Refusals.{number}
+use Rattle.base.specs.Failures.{FailureSays}
 use Rattle.base.specs.declared.failure.Failure.{Failure}
-use Rattle.base.specs.declared.failure.Failure.TheVariants.{Refused, OutOfMemory}
 use Rattle.sequential.specs.Runs.{Ran}
 use Rattle.sequential.specs.Sequential.{State, World}
 use Rattle.sequential.specs.declared.record.Retired.{Retired}
 use Rattle.sequential.specs.declared.record.Stop.{Stop}
-use Rattle.listing.specs.Images.{padded_size}
+use Rattle.listing.specs.Images.{padded_image, TooLong}
 use Rattle.listing.specs.Sequences.{sequence_text}
 
 -- the bytes of an image, and 4096 bytes of data
@@ -17,7 +16,7 @@ world_for image = record { text_size = length image; text = λ x. slice_index im
 
 -- at address 0, with zeros everywhere
 abbrev pub begin : State
-begin = record { address = 0; registers = record { values = replicate 32 0 }; bytes = λ _. 0 }
+begin = record { address = 0; registers = replicate 32 0; bytes = λ _. 0 }
 
 -- the text is that of a run of at most 1000 instructions
 pub record Printed (image text : List ℕ) : Type 0 where
@@ -27,8 +26,8 @@ pub record Printed (image text : List ℕ) : Type 0 where
   pub ran : Ran (world_for image) None begin 1000 [] stop last retired
   pub shown : text ≡ sequence_text retired stop
 
--- what the program answers to its input
+-- What the program answers to its input. There may be no memory only for an input that is not refused.
 abbrev pub Answered : List ℕ → Result (String Global) Failure → Type 0
-Answered input (Ok text) = (length input ≤ 65536) × Printed (input ++ replicate (padded_size (length input) - length input) 0) (string_bytes text)
-Answered input (Err (Refused why)) = (number why ≡ 1) × (65536 < length input)
-Answered input (Err (OutOfMemory error)) = Unit {0}
+Answered input =
+    FailureSays (λ text. (length input ≤ 65536) × Printed (padded_image input) (string_bytes text))
+    (TooLong input) (length input ≤ 65536)

@@ -26,7 +26,6 @@ pub fn data_memory(heap: Global) -> Result<Flat, AllocError>
 }
 
 /// Runs an image on the sequential machine, from address 0, and prints what retired.
-// As clocklog's in report, by another machine.
 fn print_of(heap: Global, image: PaddedImage) -> Result<String, AllocError>
     ensures { IfOk result (λ t. Printed image.bytes.items (string_bytes t)) }
 {

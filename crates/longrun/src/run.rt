@@ -1,9 +1,6 @@
 //! A run up to a number of clocks.
-ghost use Rattle.std.specs.Prelude.{◌≡◌, ◌≤◌, List, length};
-ghost use Rattle.clocking.specs.declared.state.Event.{Event};
-ghost use Rattle.pipeline.specs.Calls.{Ran, retired_entries};
-ghost use Rattle.longrun.specs.Gaps.{gaps_after};
-ghost use Rattle.longrun.specs.LongRuns.{RanTo, empty_logs};
+ghost use Rattle.pipeline.specs.Calls.{empty_logs};
+ghost use Rattle.longrun.specs.LongRuns.{RanTo, Stretched};
 
 use crate::gaps::Gaps;
 use clocking::state::ClockRecord;
@@ -38,7 +35,9 @@ fn stretch<P: Predictor, I: Memory, D: Memory>(
     clock_slots: &mut [ClockRecord],
     gaps: &mut Gaps,
 ) -> Run
-    ensures { (es : List Event) × Ran P.Predictor.table I.Memory.means D.Memory.means (empty_logs (length retired_slots.old) (length clock_slots.old)) machine.old n result es machine.new × (gaps.new ≡ gaps_after gaps.old (retired_entries es)) }
+    ensures { Stretched P.Predictor.table I.Memory.means D.Memory.means
+        (empty_logs retired_slots.old clock_slots.old) machine.old n gaps.old
+        result machine.new gaps.new }
 {
     let mut journal = Journal::new(retired_slots, clock_slots);
     let run = machine.run(n, &mut journal);
@@ -54,7 +53,8 @@ pub fn run_to<P: Predictor, I: Memory, D: Memory, W: Watch>(
     gaps: &mut Gaps,
     watch: &mut W,
 )
-    ensures { RanTo P.Predictor.table I.Memory.means D.Memory.means limit machine.old gaps.old machine.new gaps.new }
+    ensures { RanTo P.Predictor.table I.Memory.means D.Memory.means
+        limit machine.old gaps.old machine.new gaps.new }
 {
     // The slots are the caller's own, so they stand beside the journal that borrows them.
     let mut retired_slots = [RetiredAt::EMPTY; SLOTS];

@@ -1,52 +1,121 @@
 -- The main statement, from what every clock keeps. Assumes nothing.
-use Rattle.std.proofs.Common.{◌≡◌, ℕ, false, List, [], ◌∷◌, ◌++◌, is_some, Some, None, Ok, Err, Option, Result, sym, refl, append_assoc, append-nil}
+use Rattle.std.proofs.Common.{◌≡◌, ℕ, ◌+◌, ◌≤◌, false, List, [], ◌∷◌, ◌++◌, length, is_some, Some, None, Ok, Err, Option, Result, sym, refl, ap, ◌∙◌, append_assoc, append-nil, arith}
+use Rattle.std.proofs.lemmas.List.{append_cancel_left}
+use Rattle.std.proofs.lemmas.Bool.Decides.{nat_tests}
 use Rattle.base.specs.declared.refusal.Refusal.{Refusal}
 use Rattle.memory.specs.Meaning.{Meaning, Lawful}
+use Rattle.sequential.specs.declared.record.Stop.{Stop}
+use Rattle.clocking.specs.Clock.{Worked, stop_of}
 use Rattle.clocking.specs.Ports.{Table}
+use Rattle.clocking.specs.declared.state.Core.{Core}
 use Rattle.clocking.specs.declared.state.Event.{Event}
 use Rattle.clocking.proofs.Agrees.{Kept, Fresh, kept_first, kept_cycle, kept_agrees}
-use Rattle.pipeline.specs.Calls.{Logs, logged, Free, Ticked, Clocked, Clocks, start, next, HoldCall, ReleaseCall}
-use Rattle.pipeline.specs.Theorem.{Calls, none, clock, run, hold, release, reading, Agrees}
+use Rattle.pipeline.specs.Calls.{Logs, logged, retired_entries, clock_entries, refusal, Ticked, Clocked, Clocks, start, next, HoldCall, ReleaseCall}
+use Rattle.pipeline.specs.Theorem.{Entries, followed_by, entries_of, Added, Calls, none, clock, run, hold, release, pause, reading, Agrees}
+use Rattle.pipeline.specs.Pauses.{Paused}
 use Rattle.pipeline.specs.declared.machine.Machine.{Machine}
 use Rattle.pipeline.specs.declared.machine.Rejected.{Rejected}
 use Rattle.pipeline.specs.declared.token.HoldToken.{HoldToken}
+use Rattle.pipeline.proofs.Runs.{retired_after, clocks_after, logged_none, free}
 
 none_if : {T : Type 0} (o : Option T) → is_some o ≡ false → o ≡ None
 none_if None e = refl
 none_if (Some x) e = cc
 
+-- ---- the clocks are numbered
+
+abbrev NumberedFrom : ℕ → List Event → Type 0
+NumberedFrom n [] = Unit {0}
+NumberedFrom n (e ∷ es) = (e.clock.clock ≡ n) × NumberedFrom (n + 1) es
+
+numbered_more : (n : ℕ) (h : List Event) (e : Event) → NumberedFrom n h → e.clock.clock ≡ n + length h → NumberedFrom n (h ++ e ∷ [])
+numbered_more n [] e k q = (omega arith, tt)
+numbered_more n (x ∷ h) e k q = (k.0, numbered_more (n + 1) h e k.1 (omega arith))
+
+numbered_at : (n : ℕ) (a : List Event) (e : Event) (b : List Event) → NumberedFrom n (a ++ e ∷ b) → e.clock.clock ≡ n + length a
+numbered_at n [] e b k = let f = k.0 in omega arith
+numbered_at n (x ∷ a) e b k = let f = numbered_at (n + 1) a e b k.1 in omega arith
+
+-- ---- the entries of a call are those of its clocks
+
+written_more : (h : List Event) (put : Entries) (before after : Logs) (made : List Event) (added : Entries) → put ≡ entries_of h → after ≡ logged before made → Added before after added
+    → followed_by put added ≡ entries_of (h ++ made)
+written_more h put before after made added w e a =
+    let r : added.retired ≡ retired_entries made =
+    append_cancel_left before.retired.records added.retired (retired_entries made) (sym a.retired ∙ ap (λ (l : Logs). l.retired.records) e) in
+    let c : added.clocks ≡ clock_entries made =
+    append_cancel_left before.clocks.records added.clocks (clock_entries made) (sym a.clocks ∙ ap (λ (l : Logs). l.clocks.records) e) in
+    (λ i. followed_by (w i) (record { retired = r i; clocks = c i }))
+    ∙ λ i. record { retired = sym (retired_after h made) i; clocks = sym (clocks_after h made) i }
+
 module _ {P I D : Type 0} (table : Table P) (instructions : Meaning I) (words : Meaning D) (il : Lawful instructions) (dl : Lawful words) (first : Machine P I D) where
-  abbrev Holds : List Event → Machine P I D → Type 0
-  Holds h m = Kept table instructions words il dl first.core h m.core
+  record Holds (h : List Event) (m : Core P I D) : Type 0 where
+    kept : Kept table instructions words il dl first.core h m
+    numbered : NumberedFrom 1 h
+    bounded : m.counts.clocks ≤ 4294967295
 
-  by_clock : (h : List Event) (l : Logs) (m : Machine P I D) (e : Event) (n : Machine P I D) → Holds h m → Free l m → Ticked table instructions words m e n → Holds (h ++ e ∷ []) n
-  by_clock h l m e n k f t =
-      kept_cycle table instructions words il dl first.core h m.core e n.core k (none_if m.core.stopped f.not_stopped) f.not_spent t.cycled
+  clock_number : (o : Option Stop) (m : Core P I D) (e : Event) (n : Core P I D) → Worked table instructions words o m e n → (e.clock.clock ≡ n.counts.clocks) × (n.counts.clocks ≡ m.counts.clocks + 1)
+  clock_number None m e n w = (ap (λ (x : Event). x.clock.clock) w.told_so, w.counted.clocks)
+  clock_number (Some stop) m e n w = (ap (λ (x : Event). x.clock.clock) w.told_so, w.counted.clocks)
 
-  by_clocked : (h : List Event) (l : Logs) (m : Machine P I D) (r : Result (Unit {0}) Refusal) (es : List Event) (n : Machine P I D) → Holds h m → Clocked table instructions words l m r es n → Holds (h ++ es) n
-  by_clocked h l m (Err why) es n k c = rw (c.0, c.1, append-nil h) k
-  by_clocked h l m (Ok u) es n k c = rw c.1.1 (by_clock h l m c.1.0 n k c.0 c.1.2)
+  by_clock : (h : List Event) (l : Logs) (m : Machine P I D) (e : Event) (n : Machine P I D) → Holds h m.core → refusal l m ≡ 0 → Ticked table instructions words m e n → Holds (h ++ e ∷ []) n.core
+  by_clock h l m e n k z t =
+      let f = free l m z in
+      let unspent = f.not_spent in
+      let bound = k.bounded in
+      let counts = (kept_agrees table instructions words il dl first.core h m.core k.kept).accounted.clock_count in
+      let few : m.core.counts.clocks + 1 ≤ 4294967295 = grind (arith, nat_tests) in
+      let c = clock_number (stop_of m.core.latches.w) m.core e n.core t.cycled in
+      record {
+        kept = kept_cycle table instructions words il dl first.core h m.core e n.core k.kept (none_if m.core.stopped f.not_stopped) (omega arith) t.cycled;
+        numbered = numbered_more 1 h e k.numbered (omega arith);
+        bounded = omega arith;
+      }
 
-  by_clocks : (h : List Event) (l : Logs) (m : Machine P I D) (j : ℕ) (es : List Event) (n : Machine P I D) → Holds h m → Clocks table instructions words l m j es n → Holds (h ++ es) n
+  by_clocked : (h : List Event) (l j : Logs) (m : Machine P I D) (r : Result (Unit {0}) Refusal) (es : List Event) (n : Machine P I D) → Holds h m.core → Clocked table instructions words l m r es j n
+      → Holds (h ++ es) n.core × (j ≡ logged l es)
+  by_clocked h l j m (Err why) es n k c = (rw (c.1, c.2, append-nil h) k, c.3 ∙ sym (logged_none l) ∙ ap (logged l) (sym c.1))
+  by_clocked h l j m (Ok u) es n k c = (rw c.1.1 (by_clock h l m c.1.0 n k c.0 c.1.2), c.2)
+
+  by_clocks : (h : List Event) (l : Logs) (m : Machine P I D) (j : ℕ) (es : List Event) (n : Machine P I D) → Holds h m.core → Clocks table instructions words l m j es n → Holds (h ++ es) n.core
   by_clocks h l m j es n k start = rw (append-nil h) k
   by_clocks h l m j es n k (next {k = i} {es = fs} {n = p} e q c f t) =
       rw (sym (append_assoc h fs (e ∷ []))) (by_clock (h ++ fs) (logged l fs) p e q (by_clocks h l m i fs p k c) f t)
 
-  by_hold : (h : List Event) (m : Machine P I D) (r : Result HoldToken Refusal) (n : Machine P I D) → Holds h m → HoldCall m r n → Holds h n
+  by_hold : (h : List Event) (m : Machine P I D) (r : Result HoldToken Refusal) (n : Machine P I D) → Holds h m.core → HoldCall m r n → Holds h n.core
   by_hold h m (Ok token) n k c = rw c.2 k
   by_hold h m (Err why) n k c = rw c.2 k
 
-  by_release : (h : List Event) (m : Machine P I D) (token : HoldToken) (r : Result (Unit {0}) Rejected) (n : Machine P I D) → Holds h m → ReleaseCall m token r n → Holds h n
+  by_release : (h : List Event) (m : Machine P I D) (token : HoldToken) (r : Result (Unit {0}) Rejected) (n : Machine P I D) → Holds h m.core → ReleaseCall m token r n → Holds h n.core
   by_release h m token (Ok u) n k c = rw c.2 k
-  by_release h m token (Err e) n k c = rw c.0 k
+  by_release h m token (Err e) n k c = rw c.3 k
 
-  by_calls : (h : List Event) (m : Machine P I D) → Holds [] first → Calls table instructions words first h m → Holds h m
-  by_calls h m k none = k
-  by_calls h m k (clock {h = g} {m = p} l r es n cs c) = by_clocked g l p r es n (by_calls g p k cs) c
-  by_calls h m k (run {h = g} {m = p} l j r es n cs c) = by_clocks g l p r.made es n (by_calls g p k cs) c.0
-  by_calls h m k (hold {h = g} {m = p} r n cs c) = by_hold g p r n (by_calls g p k cs) c
-  by_calls h m k (release {h = g} {m = p} token r n cs c) = by_release g p token r n (by_calls g p k cs) c
-  by_calls h m k (reading cs) = by_calls h m k cs
+  by_pause : (h : List Event) (m : Machine P I D) (r : Result (Unit {0}) Refusal) (n : Machine P I D) → Holds h m.core → Paused m r n → Holds h n.core
+  by_pause h m (Ok u) n k c = rw c.1 k
+  by_pause h m (Err why) n k c = rw c.2 k
+
+  by_calls : (h : List Event) (put : Entries) (m : Machine P I D) → Holds [] first.core → Calls table instructions words first h put m → Holds h m.core × (put ≡ entries_of h)
+  by_calls h put m k none = (k, refl)
+  by_calls h put m k (clock {h = g} {put = q} {m = p} before after r es added n cs c a) =
+      let b = by_calls g q p k cs in
+      let d = by_clocked g before after p r es n b.0 c in
+      (d.0, written_more g q before after es added b.1 d.1 a)
+  by_calls h put m k (run {h = g} {put = q} {m = p} before after count r es added n cs c a) =
+      let b = by_calls g q p k cs in
+      (by_clocks g before p r.made es n b.0 c.0, written_more g q before after es added b.1 c.1 a)
+  by_calls h put m k (hold {h = g} {put = q} {m = p} r n cs c) = let b = by_calls g q p k cs in (by_hold g p r n b.0 c, b.1)
+  by_calls h put m k (release {h = g} {put = q} {m = p} token r n cs c) = let b = by_calls g q p k cs in (by_release g p token r n b.0 c, b.1)
+  by_calls h put m k (pause {h = g} {put = q} {m = p} r n cs c) = let b = by_calls g q p k cs in (by_pause g p r n b.0 c, b.1)
+  by_calls h put m k (reading cs) = by_calls h put m k cs
 
   pub agrees : Fresh table instructions words il dl first.core → Agrees table instructions words first
-  agrees z h m cs = kept_agrees table instructions words il dl first.core h m.core (by_calls h m (kept_first table instructions words il dl first.core z) cs)
+  agrees z h put m cs =
+      let zero = z.clocks in
+      let b = by_calls h put m (record { kept = kept_first table instructions words il dl first.core z; numbered = tt; bounded = omega arith }) cs in (
+        kept_agrees table instructions words il dl first.core h m.core b.0.kept,
+        record {
+          entries = b.1;
+          numbered = λ a e c q.
+              let f = numbered_at 1 a e c (rw q at b.0.numbered) in omega arith;
+        },
+      )

@@ -1,18 +1,18 @@
 -- What the calls' contracts say of the two logs. Assumes nothing.
-use Rattle.std.specs.Prelude.{◌≡◌, ◌<◌, length, Ok, Err, Result}
-use Rattle.base.specs.Logs.{records, room}
+use Rattle.std.specs.Prelude.{◌≡◌, Result}
+use Rattle.base.specs.Logs.{records, spare, room}
+use Rattle.base.specs.Refusals.{Says}
 use Rattle.base.specs.declared.refusal.Refusal.{Refusal}
-use Rattle.pipeline.specs.Calls.{Logs, Blocked, Free}
+use Rattle.pipeline.specs.Calls.{Logs, refusal}
 use Rattle.pipeline.specs.declared.journal.Journal.{Journal}
 use Rattle.pipeline.specs.declared.machine.Machine.{Machine}
 
--- how many slots each log of a journal has, and what it holds
+-- the slots of the two logs of a journal
 abbrev pub logs : Journal → Logs
-logs j = record { retired_room = room j.retirements; retired = records j.retirements; clock_room = room j.clocks; clocks = records j.clocks }
-
--- each log has a slot left
-abbrev pub HasRoom : Logs → Type 0
-HasRoom l = (length l.retired < l.retired_room) × (length l.clocks < l.clock_room)
+logs j = record {
+  retired = record { records = records j.retirements; spare = spare j.retirements };
+  clocks = record { records = records j.clocks; spare = spare j.clocks };
+}
 
 -- the logs stand in the slots in which they stood
 pub record SameSlots (j k : Journal) : Type 0 where
@@ -21,7 +21,6 @@ pub record SameSlots (j k : Journal) : Type 0 where
   pub retired_lent : k.retirements.slots.ghost_name ≡ j.retirements.slots.ghost_name
   pub clock_lent : k.clocks.slots.ghost_name ≡ j.clocks.slots.ghost_name
 
--- what the test before a clock says: nothing refuses it, or this does
+-- what the test before a clock says
 abbrev pub Tested : {P I D : Type 0} → Logs → Machine P I D → Result (Unit {0}) Refusal → Type 0
-Tested l m (Ok u) = Free l m
-Tested l m (Err why) = Blocked l m why
+Tested l m = Says (λ _. refusal l m ≡ 0) (λ why. refusal l m ≡ why)

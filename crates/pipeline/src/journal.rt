@@ -1,8 +1,8 @@
 //! The two logs that a machine's clocks go to.
-ghost use Rattle.std.specs.Prelude.{◌≡◌, ◌<◌, ◌≤◌, ◌⊎◌, [], ◌∷◌, length, MatchBool};
-ghost use Rattle.base.specs.Logs.{records, spare, room};
-ghost use Rattle.pipeline.specs.Calls.{FullLog, logged};
-ghost use Rattle.pipeline.specs.Logged.{logs, HasRoom, SameSlots};
+ghost use Rattle.std.specs.Prelude.{◌≡◌, [], ◌∷◌, length, false};
+ghost use Rattle.base.specs.Logs.{room};
+ghost use Rattle.pipeline.specs.Calls.{empty_logs, is_full, logged};
+ghost use Rattle.pipeline.specs.Logged.{logs, SameSlots};
 
 use crate::machine::RetiredAt;
 use base::log::Log;
@@ -16,15 +16,16 @@ pub struct Journal<'a> {
 }
 
 impl<'a> Journal<'a> {
-    /// Two empty logs over the caller's slots.
+    /// Two empty logs over the caller's slots, which hold what they held until they are filled.
     pub fn new(
         retired_slots: &'a mut [RetiredAt],
         clock_slots: &'a mut [ClockRecord],
     ) -> Journal<'a>
-        ensures empty { (records result.retirements ≡ []) × (records result.clocks ≡ []) }
-        ensures spare { (spare result.retirements ≡ retired_slots.old) × (spare result.clocks ≡ clock_slots.old) }
-        ensures rooms { (room result.retirements ≡ length retired_slots.old) × (room result.clocks ≡ length clock_slots.old) }
-        ensures lent { (result.retirements.slots.ghost_name ≡ retired_slots.entry.ghost_name) × (result.clocks.slots.ghost_name ≡ clock_slots.entry.ghost_name) }
+        ensures empty { logs result ≡ empty_logs retired_slots.old clock_slots.old }
+        ensures rooms { (room result.retirements ≡ length retired_slots.old)
+            × (room result.clocks ≡ length clock_slots.old) }
+        ensures lent { (result.retirements.slots.ghost_name ≡ retired_slots.entry.ghost_name)
+            × (result.clocks.slots.ghost_name ≡ clock_slots.entry.ghost_name) }
     {
         Journal {
             retirements: Log::new(retired_slots),
@@ -34,7 +35,7 @@ impl<'a> Journal<'a> {
 
     /// Whether one of the two has no slot left.
     pub(crate) fn is_full(&self) -> bool
-        ensures { MatchBool result (FullLog (logs self.now)) (HasRoom (logs self.now)) }
+        ensures { result ≡ is_full (logs self.now) }
     {
         self.retirements.is_full() || self.clocks.is_full()
     }
@@ -42,7 +43,7 @@ impl<'a> Journal<'a> {
     /// Adds what a clock tells, for which there is room.
     // That the slots stay the same speaks of before and after, and so stands in no type.
     pub(crate) fn record(&mut self, event: Event)
-        requires { HasRoom (logs self.old) }
+        requires { is_full (logs self.old) ≡ false }
         ensures adds { logs self.new ≡ logged (logs self.old) (event ∷ []) }
         ensures slots { SameSlots self.old self.new }
     {

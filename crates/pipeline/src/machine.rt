@@ -28,7 +28,8 @@ impl RetiredAt {
     };
 }
 
-/// How many clocks a run made, and the refusal that the next would get if it made fewer than asked.
+/// How many clocks a run made, and the refusal that ended it. There is none only where all were made that were asked for and
+/// nothing refused the first test, which is made also where none are asked for.
 #[derive(Clone, Copy, PartialEq, Eq, Debug)]
 pub struct Run {
     pub made: u32,

@@ -2,7 +2,8 @@
 ghost use Rattle.std.specs.Prelude.{◌≡◌, true};
 ghost use Rattle.pipeline.specs.Tokens.{fresh};
 
-/// A token bears the serial of the machine that is held. It cannot be forgotten: only the machine's release spends it.
+/// A token bears the serial of the machine that is held. It cannot be forgotten: only a release spends it, of that machine or
+/// of another with the same serial, so the serials of machines ought to differ.
 pub struct HoldToken {
     serial: u16,
     spent: bool,

@@ -1,7 +1,8 @@
 //! A counter for each branch.
 ghost use Rattle.std.specs.Prelude.{◌≡◌};
 ghost use Rattle.predictor.specs.Counting.{fresh, value_at, number_of};
-ghost use Rattle.predictor.specs.Tables.{bimodal};
+ghost use Rattle.predictor.specs.States.{counters_of, bimodal_table};
+ghost use Rattle.predictor.specs.Tables.{MovedOn, taught};
 
 use crate::Predictor;
 use crate::counter::Counter;
@@ -17,7 +18,7 @@ pub struct Bimodal {
 impl Bimodal {
     /// All counters are 1 at first.
     pub fn new() -> Bimodal
-        ensures { result.counters.values ≡ fresh }
+        ensures { counters_of result ≡ fresh }
     {
         Bimodal {
             counters: Counters::new(),
@@ -26,20 +27,23 @@ impl Bimodal {
 
     /// The counter that the branch at `address` has.
     pub fn counter(&self, address: u32) -> Counter
-        ensures { result.value ≡ value_at self.now.counters.values (number_of address) }
+        ensures { result.value ≡ value_at (counters_of self.now) (number_of address) }
     {
         self.counters.get(Counters::number_of(address))
     }
 }
 
 impl Predictor for Bimodal {
-    ghost table = { λ b. bimodal b.counters.values };
+    ghost table = { bimodal_table };
 
     fn guess(&self, address: u32, _target: u32) -> bool {
         self.counter(address).is_high()
     }
 
-    fn update(&mut self, outcome: Outcome) {
+    fn update(&mut self, outcome: Outcome)
+        ensures table { MovedOn (bimodal_table self.old) outcome (bimodal_table self.new) }
+        ensures counters { counters_of self.new ≡ taught (counters_of self.old) outcome }
+    {
         let number = Counters::number_of(outcome.address);
         self.counters.count(number, outcome.taken);
     }

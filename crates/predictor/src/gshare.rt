@@ -1,7 +1,8 @@
 //! A counter for each branch under each history.
 ghost use Rattle.std.specs.Prelude.{◌≡◌};
-ghost use Rattle.predictor.specs.Counting.{fresh, value_at, number_under};
-ghost use Rattle.predictor.specs.Tables.{gshare};
+ghost use Rattle.predictor.specs.Counting.{fresh, value_at, number_under, shifted};
+ghost use Rattle.predictor.specs.States.{gshare_counters, history_of, gshare_table};
+ghost use Rattle.predictor.specs.Tables.{MovedOn, taught_under};
 
 use crate::Predictor;
 use crate::counter::Counter;
@@ -19,8 +20,8 @@ pub struct Gshare {
 impl Gshare {
     /// All counters are 1 at first, and the history is 0.
     pub fn new() -> Gshare
-        ensures counters { result.counters.values ≡ fresh }
-        ensures history { result.history.bits ≡ 0 }
+        ensures counters { gshare_counters result ≡ fresh }
+        ensures history { history_of result ≡ 0 }
     {
         Gshare {
             counters: Counters::new(),
@@ -30,35 +31,40 @@ impl Gshare {
 
     /// The latest outcomes, as `History` has them.
     pub fn history(&self) -> u8
-        ensures { result ≡ self.now.history.bits }
+        ensures { result ≡ history_of self.now }
     {
         self.history.bits
     }
 
     /// Which counter the branch at `address` has now.
     fn number(&self, address: u32) -> u8
-        ensures { result ≡ number_under self.now.history.bits address }
+        ensures { result ≡ number_under (history_of self.now) address }
     {
         Counters::number_of(address) ^ self.history()
     }
 
     /// The counter that the branch at `address` has now.
     pub fn counter(&self, address: u32) -> Counter
-        ensures { result.value ≡ value_at self.now.counters.values (number_under self.now.history.bits address) }
+        ensures { result.value
+            ≡ value_at (gshare_counters self.now) (number_under (history_of self.now) address) }
     {
         self.counters.get(self.number(address))
     }
 }
 
 impl Predictor for Gshare {
-    ghost table = { λ g. gshare g.counters.values g.history.bits };
+    ghost table = { gshare_table };
 
-    // one line, as bimodal's, by another counter
     fn guess(&self, address: u32, _target: u32) -> bool {
         self.counter(address).is_high()
     }
 
-    fn update(&mut self, outcome: Outcome) {
+    fn update(&mut self, outcome: Outcome)
+        ensures table { MovedOn (gshare_table self.old) outcome (gshare_table self.new) }
+        ensures counters { gshare_counters self.new
+            ≡ taught_under (history_of self.old) (gshare_counters self.old) outcome }
+        ensures history { history_of self.new ≡ shifted (history_of self.old) outcome.taken }
+    {
         let number = self.number(outcome.address);
         self.counters.count(number, outcome.taken);
         self.history.push(outcome.taken);

@@ -1,8 +1,9 @@
 //! Branch predictors: what any predictor is, and five of them. `docs/predictors.md` works a loop out for each.
 #![tactic(auto)]
 
-ghost use Rattle.std.specs.Prelude.{◌≡◌, ℕ, Bool, List, [], ◌∷◌};
+ghost use Rattle.std.specs.Prelude.{◌≡◌, ℕ, Bool, List, []};
 ghost use Rattle.base.specs.declared.branch.Outcome.{Outcome};
+ghost use Rattle.predictor.specs.Tables.{MovedOn};
 
 use base::branch::Outcome;
 
@@ -28,5 +29,5 @@ pub trait Predictor {
 
     /// What became of a branch: the table moves on by it.
     fn update(&mut self, outcome: Outcome)
-        ensures { table self.new ≡ (λ later. table self.old (outcome ∷ later)) };
+        ensures { MovedOn (table self.old) outcome (table self.new) };
 }

@@ -1,7 +1,8 @@
 //! Two predictors, and counters that choose between them.
-ghost use Rattle.std.specs.Prelude.{◌≡◌, []};
+ghost use Rattle.std.specs.Prelude.{◌≡◌};
 ghost use Rattle.predictor.specs.Counting.{fresh, value_at, number_of};
-ghost use Rattle.predictor.specs.Tables.{judged, tournament};
+ghost use Rattle.predictor.specs.States.{choosers_of, first_of, second_of, judged_by, tournament_table};
+ghost use Rattle.predictor.specs.Tables.{MovedOn};
 
 use crate::Predictor;
 use crate::counter::Counter;
@@ -19,9 +20,9 @@ pub struct Tournament<A, B> {
 impl<A, B> Tournament<A, B> {
     /// All choosing counters are 1 at first.
     pub fn new(first: A, second: B) -> Tournament<A, B>
-        ensures choosers { result.choosers.values ≡ fresh }
-        ensures first { result.first ≡ first }
-        ensures second { result.second ≡ second }
+        ensures choosers { choosers_of result ≡ fresh }
+        ensures first { first_of result ≡ first }
+        ensures second { second_of result ≡ second }
     {
         Tournament {
             choosers: Counters::new(),
@@ -32,7 +33,7 @@ impl<A, B> Tournament<A, B> {
 
     /// The choosing counter that the branch at `address` has.
     pub fn chooser(&self, address: u32) -> Counter
-        ensures { result.value ≡ value_at self.now.choosers.values (number_of address) }
+        ensures { result.value ≡ value_at (choosers_of self.now) (number_of address) }
     {
         self.choosers.get(Counters::number_of(address))
     }
@@ -41,9 +42,10 @@ impl<A, B> Tournament<A, B> {
 impl<A: Predictor, B: Predictor> Tournament<A, B> {
     /// Where the two guesses for a branch differ, its choosing counter goes up if the second was right, else down.
     fn judge(&mut self, outcome: Outcome)
-        ensures choosers { self.new.choosers.values ≡ judged self.old.choosers.values (A.Predictor.table self.old.first [] outcome.address outcome.target) (B.Predictor.table self.old.second [] outcome.address outcome.target) outcome }
-        ensures first { self.new.first ≡ self.old.first }
-        ensures second { self.new.second ≡ self.old.second }
+        ensures choosers { choosers_of self.new
+            ≡ judged_by A.Predictor.table B.Predictor.table self.old outcome }
+        ensures first { first_of self.new ≡ first_of self.old }
+        ensures second { second_of self.new ≡ second_of self.old }
     {
         let first = self.first.guess(outcome.address, outcome.target);
         let second = self.second.guess(outcome.address, outcome.target);
@@ -55,7 +57,7 @@ impl<A: Predictor, B: Predictor> Tournament<A, B> {
 }
 
 impl<A: Predictor, B: Predictor> Predictor for Tournament<A, B> {
-    ghost table = { λ t. tournament t.choosers.values (A.Predictor.table t.first) (B.Predictor.table t.second) };
+    ghost table = { tournament_table A.Predictor.table B.Predictor.table };
 
     fn guess(&self, address: u32, target: u32) -> bool {
         if self.chooser(address).is_high() {
@@ -65,7 +67,16 @@ impl<A: Predictor, B: Predictor> Predictor for Tournament<A, B> {
         }
     }
 
-    fn update(&mut self, outcome: Outcome) {
+    fn update(&mut self, outcome: Outcome)
+        ensures table { let table = tournament_table A.Predictor.table B.Predictor.table in
+            MovedOn (table self.old) outcome (table self.new) }
+        ensures choosers { choosers_of self.new
+            ≡ judged_by A.Predictor.table B.Predictor.table self.old outcome }
+        ensures first { let table = A.Predictor.table in
+            MovedOn (table (first_of self.old)) outcome (table (first_of self.new)) }
+        ensures second { let table = B.Predictor.table in
+            MovedOn (table (second_of self.old)) outcome (table (second_of self.new)) }
+    {
         self.judge(outcome);
         self.first.update(outcome);
         self.second.update(outcome);

@@ -31,7 +31,7 @@ impl Account {
         Account {
             text: String::new(heap),
             retired: 0,
-            digest: Digest::EMPTY,
+            digest: Digest::new(),
             changed: 0,
         }
     }

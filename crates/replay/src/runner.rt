@@ -100,7 +100,7 @@ fn registers<R: Runner>(machine: &R, account: &mut Account) -> Result<(), AllocE
 
 /// Adds what the memory holds, and which words are not those of the image.
 fn memory<R: Runner>(machine: &R, image: &[u8], account: &mut Account) -> Result<(), AllocError> {
-    let mut digest = Digest::EMPTY;
+    let mut digest = Digest::new();
     for (address, bytes) in (0..=u32::MAX).step_by(4).zip(image.chunks_exact(4)) {
         let word = word_at(machine, address);
         digest = digest.word(word);

@@ -1,5 +1,5 @@
 -- The answer to a set-up: which refusal it gets, and the run where it gets none. Assumes nothing.
-use Rattle.std.proofs.Common.{◌≡◌, ℕ, Bool, true, false, cond, ◌&&◌, List, length, replicate, is_err, IsErrAnd, Some, None, Ok, Err, vec_items, vec_len, Option, Result, Vec, sym, ap, ◌∙◌, subst, true≢false}
+use Rattle.std.proofs.Common.{◌≡◌, ℕ, Bool, true, false, if◌then◌else◌, not, ◌&&◌, List, length, replicate, is_err, IsErrAnd, Some, None, Ok, Err, vec_items, vec_len, Option, Result, Vec, sym, ap, ◌∙◌, subst, true≢false}
 use Rattle.std.proofs.lemmas.Bool.{and_parts}
 use Rattle.std.specs.declared.alloc.Global.{Global}
 use Rattle.base.specs.Refusals.{number}
@@ -20,11 +20,11 @@ pub data_answer : (s : Setup) (v : Vec ℕ Global) (r : Result ChosenMemory Fail
 data_answer s v (Ok m) f n z b =
     (f, (and_parts (flat_fits (vec_len v)) (layers_fit s.«data») b.fits).1, record { vector = v; holds = z; chosen = b })
 data_answer s v (Err (Refused why)) f n z h =
-    (h.0 ∙ ap (λ (k : ℕ). cond (flat_fits k) 2 1) n, sym (ap (λ (k : ℕ). flat_fits k && layers_fit s.«data») n) ∙ h.1)
-data_answer s v (Err (OutOfMemory error)) f n z h = tt
+    (h.0 ∙ ap (λ (k : ℕ). if flat_fits k then 2 else 1) n, sym (ap (λ (k : ℕ). flat_fits k && layers_fit s.«data») n) ∙ h.1)
+data_answer s v (Err (OutOfMemory error)) f n z h = f
 
 -- the first of two tests that fails
-first_failing : (f l : Bool) (x : Option ℕ) (n : ℕ) → n ≡ cond f 2 1 → (f && l) ≡ false → cond f (cond l x (Some 2)) (Some 1) ≡ Some n
+first_failing : (f l : Bool) (x : Option ℕ) (n : ℕ) → n ≡ (if f then 2 else 1) → (f && l) ≡ false → (if not f then Some 1 else if not l then Some 2 else x) ≡ Some n
 first_failing true true x n e z = absurd (true≢false z)
 first_failing true false x n e z = ap Some (sym e)
 first_failing false l x n e z = ap Some (sym e)
@@ -32,9 +32,10 @@ first_failing false l x n e z = ap Some (sym e)
 -- a refusal of the data memory is one of the set-up, where the instruction memory is sound
 pub data_refused : (s : Setup) (image : List ℕ) (e : Failure) → layers_fit s.instructions ≡ true → DataAnswer s (Err e) → AssemblyAnswer s image (Err e)
 data_refused s image (Refused why) i h =
-    ap (λ (b : Bool). cond b (cond (flat_fits s.data_size) (cond (layers_fit s.«data») (cond (load_fits 0 (length image) s.start) None (Some 3)) (Some 2)) (Some 1)) (Some 2)) i
-    ∙ first_failing (flat_fits s.data_size) (layers_fit s.«data») (cond (load_fits 0 (length image) s.start) None (Some 3)) (number why) h.0 h.1
-data_refused s image (OutOfMemory error) i h = tt
+    let start = if not (load_fits 0 (length image) s.start) then Some 3 else None in
+    let tests = if not (flat_fits s.data_size) then Some 1 else if not (layers_fit s.«data») then Some 2 else start in
+    ap (λ (b : Bool). if not b then Some 2 else tests) i ∙ first_failing (flat_fits s.data_size) (layers_fit s.«data») start (number why) h.0 h.1
+data_refused s image (OutOfMemory error) i h = i
 
 -- the same of what it is converted to
 pub data_refused_by : (s : Setup) (image : List ℕ) (e : Failure) (r : Result (Assembly Guesser ChosenMemory ChosenMemory) Failure) → is_err r ≡ true → IsErrAnd r (λ x. x ≡ e) → layers_fit s.instructions ≡ true → DataAnswer s (Err e)

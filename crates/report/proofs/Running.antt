@@ -1,23 +1,26 @@
 -- A run and the text of it. Assumes nothing.
-use Rattle.std.proofs.Common.{◌≡◌, ℕ, ◌≤◌, Bool, true, false, ◌⊎◌, List, [], ◌∷◌, ◌++◌, length, Some, None, Option, sym, refl, ap, ◌∙◌, subst, inl, inr, ⊎_elim, true≢false, arith, length-append}
-use Rattle.base.specs.Logs.{records, room}
-use Rattle.base.specs.declared.refusal.Refusal.{Refusal}
-use Rattle.base.specs.declared.refusal.Refusal.TheVariants.{FlatSize, LongWait, BadStart, Held, Stopped, LogFull, ClocksSpent, WrongToken, NotThere, NoWord}
+use Rattle.std.proofs.Common.{◌≡◌, ℕ, zero, suc, ◌≤◌, Bool, true, false, ◌⊎◌, List, [], ◌∷◌, ◌++◌, length, Some, None, Option, sym, refl, ap, ◌∙◌, subst, inl, inr, ⊎_elim, true≢false, arith, length-append}
+use Rattle.std.proofs.lemmas.Bool.{eqb-true}
+use Rattle.std.proofs.lemmas.Bool.Decides.{nat_tests}
+use Rattle.std.proofs.lemmas.List.{length-drop}
+use Rattle.base.specs.Logs.{records}
+use Rattle.base.specs.Refusals.{reason}
 use Rattle.memory.specs.Meaning.{Meaning}
 use Rattle.sequential.specs.declared.record.Retirement.{Retirement}
 use Rattle.clocking.specs.Ports.{Table}
 use Rattle.clocking.specs.declared.state.ClockRecord.{ClockRecord}
 use Rattle.clocking.specs.declared.state.Event.{Event}
-use Rattle.pipeline.specs.Calls.{Logs, logged, retired_at, retired_entries, clock_entries, is_stopped, Clocks, start, next, Ended, Ran, RanInto}
+use Rattle.pipeline.specs.Calls.{Logs, empty_logs, is_full, logged, retired_at, retired_entries, clock_entries, is_stopped, Clocks, start, next, Ended, Ran, RanInto}
 use Rattle.pipeline.specs.Logged.{logs}
-use Rattle.pipeline.specs.Theorem.{Calls, none, run}
+use Rattle.pipeline.specs.Theorem.{Entries, no_entries, followed_by, entries_of, Calls, none, run}
 use Rattle.pipeline.specs.declared.journal.Journal.{Journal}
 use Rattle.pipeline.specs.declared.machine.Machine.{Machine}
 use Rattle.pipeline.specs.declared.machine.RetiredAt.{RetiredAt}
 use Rattle.pipeline.specs.declared.machine.Run.{Run}
+use Rattle.pipeline.proofs.Runs.{says_no}
 use Rattle.clocktable.specs.Tables.{two_tables}
 use Rattle.longrun.specs.Gaps.{none_yet, gaps_after}
-use Rattle.longrun.specs.LongRuns.{RanTo, empty_logs}
+use Rattle.longrun.specs.LongRuns.{RanTo}
 use Rattle.longrun.specs.declared.gaps.Gaps.{Gaps}
 use Rattle.longrun.proofs.Stretches.{clocks_on, held_on, not_past}
 use Rattle.setup.specs.declared.choice.Setup.{Setup}
@@ -43,23 +46,25 @@ clocks_many : (es : List Event) → length (clock_entries es) ≡ length es
 clocks_many [] = refl
 clocks_many (e ∷ es) = let rest = clocks_many es in omega arith
 
--- the machine that is not held, over logs with room for all, ends at the limit or stopped
-ended_why : {P I D : Type 0} (n : ℕ) (es : List Event) (p : Machine P I D) (made : ℕ) (why : Option Refusal) → Ended (logged (empty_logs n n) es) p n made why → p.held ≡ false
-    → length es ≡ made → p.core.counts.clocks ≡ made → n ≤ 4294967295 → (is_stopped p ≡ true) ⊎ (n ≤ p.core.counts.clocks)
-ended_why n es p made None e h k c b = inr (omega arith)
-ended_why n es p made (Some Held) e h k c b = absurd (true≢false (sym e.1 ∙ h))
-ended_why n es p made (Some Stopped) e h k c b = inl e.1.1
-ended_why n es p made (Some LogFull) e h k c b =
+-- with no slot left in logs of n, n clocks were made at least
+all_filled : (n : ℕ) (a : List RetiredAt) (b : List ClockRecord) (es : List Event) → length a ≡ n → length b ≡ n → is_full (logged (empty_logs a b) es) ≡ true → n ≤ length es
+all_filled n a b es la lb full =
     let few = retired_few es in
     let many = clocks_many es in
-    inr (⊎_elim (λ x. omega arith) (λ x. omega arith) e.1.2)
-ended_why n es p made (Some ClocksSpent) e h k c b = let spent = e.1.4 in inr (omega arith)
-ended_why n es p made (Some FlatSize) e h k c b = absurd e.1
-ended_why n es p made (Some LongWait) e h k c b = absurd e.1
-ended_why n es p made (Some BadStart) e h k c b = absurd e.1
-ended_why n es p made (Some WrongToken) e h k c b = absurd e.1
-ended_why n es p made (Some NotThere) e h k c b = absurd e.1
-ended_why n es p made (Some NoWord) e h k c b = absurd e.1
+    let ra = length-drop (length (retired_entries es)) a in
+    let rb = length-drop (length (clock_entries es)) b in grind (arith, nat_tests)
+
+-- the machine that is not held, over logs with room for all, ends at the limit or stopped
+ended_why : {P I D : Type 0} (n : ℕ) (a : List RetiredAt) (b : List ClockRecord) (es : List Event) (p : Machine P I D) (made why : ℕ) → length a ≡ n → length b ≡ n
+    → Ended (logged (empty_logs a b) es) p n made why → p.held ≡ false → length es ≡ made → p.core.counts.clocks ≡ made → n ≤ 4294967295
+    → (is_stopped p ≡ true) ⊎ (n ≤ p.core.counts.clocks)
+ended_why n a b es p made zero la lb e h k c bound = let all = e.0 in inr (omega arith)
+ended_why n a b es p made (suc why) la lb e h k c bound =
+    ⊎_elim (λ x. absurd (true≢false (sym x ∙ h)))
+    (⊎_elim (λ x. inl x)
+    (⊎_elim (λ x. let full = all_filled n a b es la lb x in inr (omega arith))
+    (λ x. let spent = eqb-true p.core.counts.clocks 4294967295 x in inr (omega arith))))
+    (says_no (logged (empty_logs a b) es) p (λ z. let some = e.1 in omega arith))
 
 module _ {P I D : Type 0} (table : Table P) (instructions : Meaning I) (words : Meaning D) where
   events_counted : (l : Logs) (m : Machine P I D) (k : ℕ) (es : List Event) (n : Machine P I D) → Clocks table instructions words l m k es n → length es ≡ k
@@ -68,42 +73,40 @@ module _ {P I D : Type 0} (table : Table P) (instructions : Meaning I) (words : 
       let before = events_counted l m i fs p c in
       let sum = length-append fs (e ∷ []) in omega arith
 
-  -- a run over logs with room for all of it
-  run_finished : (n : ℕ) (first : Machine P I D) (r : Run) (es : List Event) (last : Machine P I D) → Ran table instructions words (empty_logs n n) first n r es last → n ≤ 4294967295
-      → first.held ≡ false → first.core.counts.clocks ≡ 0 → Finished n last
-  run_finished n first r es last ran bound held zero =
-      let on = clocks_on table instructions words n n first n r es last ran in
-      let past = not_past table instructions words n n first n r es last ran in
-      record {
-        within = omega arith;
-        ended = ended_why n es last r.made r.why ran.1 (held_on table instructions words n n first n r es last ran ∙ held)
-            (events_counted (empty_logs n n) first r.made es last ran.0) (omega arith) bound;
-      }
-
-  -- what it comes to: its history is what the logs hold
+  -- what a run over logs with room for all of it comes to: its history is what the logs hold
   pub record Whole (n : ℕ) (first last : Machine P I D) (rs : List RetiredAt) (cs : List ClockRecord) : Type 0 where
     pub history : List Event
-    pub calls : Calls table instructions words first history last
+    pub put : Entries
+    pub calls : Calls table instructions words first history put last
     pub finished : first.held ≡ false → first.core.counts.clocks ≡ 0 → Finished n last
     pub retired_so : rs ≡ retired_entries history
     pub clocks_so : cs ≡ clock_entries history
 
-  pub whole_run : (n : ℕ) (before after : Journal) (first last : Machine P I D) (r : Run) → n ≤ 4294967295 → (records before.retirements ≡ []) × (records before.clocks ≡ [])
-      → (room before.retirements ≡ n) × (room before.clocks ≡ n) → RanInto table instructions words (logs before) first n r (logs after) last
+  pub whole_run : (n : ℕ) (a : List RetiredAt) (b : List ClockRecord) (before after : Journal) (first last : Machine P I D) (r : Run) → n ≤ 4294967295 → logs before ≡ empty_logs a b
+      → length a ≡ n → length b ≡ n → RanInto table instructions words (logs before) first n r (logs after) last
       → Whole n first last (records after.retirements) (records after.clocks)
-  whole_run n before after first last r bound empty rooms ran =
-      let fresh : logs before ≡ empty_logs n n = λ k. record { retired_room = rooms.0 k; retired = empty.0 k; clock_room = rooms.1 k; clocks = empty.1 k } in
+  whole_run n a b before after first last r bound empty la lb ran =
       let es = ran.0 in
-      let made : Ran table instructions words (empty_logs n n) first n r es last =
-      let P : Logs → Type 0 = λ l. Ran table instructions words l first n r es last in
-      subst P fresh ran.1 in
-      let filled : logs after ≡ logged (empty_logs n n) es = ran.2 ∙ ap (λ (x : Logs). logged x es) fresh in
+      let P : Logs → Type 0 = λ l. Ran table instructions words l first n r es (logs after) last in
+      let made : P (empty_logs a b) = subst P empty ran.1 in
+      let l = empty_logs a b in
+      let filled : logs after ≡ logged l es = made.1 in
+      let on = clocks_on table instructions words l first n r es (logs after) last made in
+      let past = not_past table instructions words l first n r es (logs after) last made in
+      let counted = events_counted l first r.made es last made.0 in
+      let Q : Logs → Type 0 = λ j. Ended j last n r.made (reason r.why) in
       record {
         history = es;
-        calls = run (empty_logs n n) n r es last none made;
-        finished = run_finished n first r es last made bound;
-        retired_so = ap (λ (x : Logs). x.retired) filled;
-        clocks_so = ap (λ (x : Logs). x.clocks) filled;
+        put = followed_by no_entries (entries_of es);
+        calls = run l (logs after) n r es (entries_of es) last none made
+            (record { retired = ap (λ (x : Logs). x.retired.records) filled; clocks = ap (λ (x : Logs). x.clocks.records) filled });
+        finished = λ held zero. record {
+          within = omega arith;
+          ended = ended_why n a b es last r.made (reason r.why) la lb (subst Q filled made.2)
+              (held_on table instructions words l first n r es (logs after) last made ∙ held) counted (omega arith) bound;
+        };
+        retired_so = ap (λ (x : Logs). x.retired.records) filled;
+        clocks_so = ap (λ (x : Logs). x.clocks.records) filled;
       }
 
   module _ (s : Setup) (w : Longest) (first last : Machine P I D) where
@@ -115,6 +118,7 @@ module _ {P I D : Type 0} (table : Table P) (instructions : Meaning I) (words : 
         let gaps : k ≡ gaps_after none_yet (retired_entries h) = ran.reached.gaps_so ∙ ap (λ (x : Gaps). gaps_after x (retired_entries h)) fresh in
         record {
           history = h;
+          put = ran.reached.put;
           last = last;
           calls = ran.reached.calls;
           finished = λ held zero. record {
@@ -134,6 +138,7 @@ module _ {P I D : Type 0} (table : Table P) (instructions : Meaning I) (words : 
         let gaps : g ≡ gaps_after none_yet (retired_entries h) = ge ∙ ap (gaps_after none_yet) whole.retired_so in
         record {
           history = h;
+          put = whole.put;
           last = last;
           calls = whole.calls;
           finished = whole.finished;

@@ -1,9 +1,8 @@
 -- What clocklog prints, from the input to the last line. Assumes nothing.
-use Rattle.std.specs.Prelude.{◌≡◌, ℕ, ◌-◌, ◌<◌, ◌≤◌, List, ◌++◌, length, replicate, Ok, Err, vec_items, string_bytes, Result, String}
+use Rattle.std.specs.Prelude.{◌≡◌, ℕ, ◌≤◌, List, length, replicate, vec_items, string_bytes, Result, String}
 use Rattle.std.specs.declared.alloc.Global.{Global}
-use Rattle.base.specs.Refusals.{number}
+use Rattle.base.specs.Failures.{FailureSays}
 use Rattle.base.specs.declared.failure.Failure.{Failure}
-use Rattle.base.specs.declared.failure.Failure.TheVariants.{Refused, OutOfMemory}
 use Rattle.memory.specs.Flat.{flat_means}
 use Rattle.memory.specs.declared.flat.Flat.{Flat}
 use Rattle.predictor.specs.Tables.{never}
@@ -11,9 +10,9 @@ use Rattle.predictor.specs.declared.never.Never.{Never}
 use Rattle.clocking.specs.declared.state.Event.{Event}
 use Rattle.pipeline.specs.Calls.{Loaded, retired_entries, clock_entries}
 use Rattle.pipeline.specs.Readings.{totals}
-use Rattle.pipeline.specs.Theorem.{Agrees, Calls}
+use Rattle.pipeline.specs.Theorem.{Agrees, Entries, Calls}
 use Rattle.pipeline.specs.declared.machine.Machine.{Machine}
-use Rattle.listing.specs.Images.{padded_size}
+use Rattle.listing.specs.Images.{padded_image, TooLong}
 use Rattle.clocktable.specs.Tables.{clock_table}
 use Rattle.report.specs.Finishing.{Finished}
 
@@ -30,13 +29,15 @@ pub record ClockPrinted (image text : List ℕ) : Type 0 where
   pub loaded : Loaded instructions.size 0 0 predictor instructions words first
   pub agrees : Agrees (λ _. never) flat_means flat_means first
   pub history : List Event
+  pub put : Entries
   pub last : Machine Never Flat Flat
-  pub calls : Calls (λ _. never) flat_means flat_means first history last
+  pub calls : Calls (λ _. never) flat_means flat_means first history put last
   pub finished : Finished 1000 last
   pub shown : text ≡ clock_table (retired_entries history) (clock_entries history) last.core.stopped (totals last)
 
--- what is answered to an input, which is padded with zeros
+-- What is answered to an input, which is padded with zeros. There may be no memory only for an input that is not refused.
 abbrev pub ClocklogAnswer : List ℕ → Result (String Global) Failure → Type 0
-ClocklogAnswer input (Ok text) = (length input ≤ 65536) × ClockPrinted (input ++ replicate (padded_size (length input) - length input) 0) (string_bytes text)
-ClocklogAnswer input (Err (Refused why)) = (number why ≡ 1) × (65536 < length input)
-ClocklogAnswer input (Err (OutOfMemory error)) = Unit {0}
+ClocklogAnswer input =
+    FailureSays
+    (λ text. (length input ≤ 65536) × ClockPrinted (padded_image input) (string_bytes text))
+    (TooLong input) (length input ≤ 65536)

@@ -1,9 +1,8 @@
 -- What is printed of a set-up and an image, from the input to the last line. Assumes nothing.
-use Rattle.std.specs.Prelude.{◌≡◌, ℕ, ◌-◌, ◌<◌, ◌≤◌, Bool, true, false, cond, ◌&&◌, ◌⊎◌, List, [], ◌++◌, length, replicate, Some, None, Ok, Err, vec_items, string_bytes, Option, Result, Vec, String}
+use Rattle.std.specs.Prelude.{◌≡◌, ℕ, ◌≤◌, Bool, true, false, if◌then◌else◌, not, ◌&&◌, ◌⊎◌, List, [], ◌++◌, length, replicate, Some, None, vec_items, string_bytes, Option, Result, Vec, String}
 use Rattle.std.specs.declared.alloc.Global.{Global}
-use Rattle.base.specs.Refusals.{number}
+use Rattle.base.specs.Failures.{FailureSays}
 use Rattle.base.specs.declared.failure.Failure.{Failure}
-use Rattle.base.specs.declared.failure.Failure.TheVariants.{Refused, OutOfMemory}
 use Rattle.memory.specs.Flat.{flat_fits}
 use Rattle.memory.specs.Meaning.{Meaning}
 use Rattle.predictor.specs.declared.backward.Backward.{Backward}
@@ -15,9 +14,9 @@ use Rattle.clocking.specs.Ports.{Table}
 use Rattle.clocking.specs.declared.state.Event.{Event}
 use Rattle.pipeline.specs.Calls.{Loaded, load_fits, retired_entries, clock_entries}
 use Rattle.pipeline.specs.Readings.{totals}
-use Rattle.pipeline.specs.Theorem.{Agrees, Calls}
+use Rattle.pipeline.specs.Theorem.{Agrees, Entries, Calls}
 use Rattle.pipeline.specs.declared.machine.Machine.{Machine}
-use Rattle.listing.specs.Images.{padded_size}
+use Rattle.listing.specs.Images.{padded_image, TooLong}
 use Rattle.clocktable.specs.Tables.{two_tables}
 use Rattle.longrun.specs.Gaps.{none_yet, gaps_after}
 use Rattle.longrun.specs.declared.gaps.Gaps.{Gaps}
@@ -50,8 +49,9 @@ timing_text s w h m = tables_if s.log h ++ report_text s w (outcomes_of m (gaps_
 -- the text is that of a run of a machine that was just loaded
 pub record Shown {P I D : Type 0} (table : Table P) (instructions : Meaning I) (words : Meaning D) (s : Setup) (w : Longest) (first : Machine P I D) (text : List ℕ) : Type 0 where
   pub history : List Event
+  pub put : Entries
   pub last : Machine P I D
-  pub calls : Calls table instructions words first history last
+  pub calls : Calls table instructions words first history put last
   pub finished : first.held ≡ false → first.core.counts.clocks ≡ 0 → Finished s.clocks last
   pub shown : text ≡ timing_text s w history last
 
@@ -87,19 +87,39 @@ pub record Assembled (s : Setup) (image : List ℕ) (m : Machine Guesser ChosenM
 -- what a check refuses of a set-up for an image of that size, tested in this order: a layer over the instructions, the number of data bytes, a layer over the data, the start
 abbrev pub refusal_of : Setup → ℕ → Option ℕ
 refusal_of s size =
-    cond (layers_fit s.instructions)
-    (cond (flat_fits s.data_size) (cond (layers_fit s.«data») (cond (load_fits 0 size s.start) None (Some 3)) (Some 2)) (Some 1)) (Some 2)
+    if not (layers_fit s.instructions) then Some 2
+    else if not (flat_fits s.data_size) then Some 1
+    else if not (layers_fit s.«data») then Some 2
+    else if not (load_fits 0 size s.start) then Some 3
+    else None
 
--- the data memory, or the first of its two refusals
+-- the data memory of a set-up whose two checks pass
+abbrev pub DataMade : Setup → ChosenMemory → Type 0
+DataMade s m =
+    (flat_fits s.data_size ≡ true) × (layers_fit s.«data» ≡ true)
+    × OfBytes s.«data» (replicate s.data_size 0) m
+
+-- the number of the first check that does not
+abbrev pub DataUnfit : Setup → ℕ → Type 0
+DataUnfit s why =
+    (why ≡ (if flat_fits s.data_size then 2 else 1))
+    × (flat_fits s.data_size && layers_fit s.«data» ≡ false)
+
+-- The data memory, or its refusal. There may be no memory only where a flat memory can have so many bytes.
 abbrev pub DataAnswer : Setup → Result ChosenMemory Failure → Type 0
-DataAnswer s (Ok m) = (flat_fits s.data_size ≡ true) × (layers_fit s.«data» ≡ true) × OfBytes s.«data» (replicate s.data_size 0) m
-DataAnswer s (Err (Refused why)) = (number why ≡ cond (flat_fits s.data_size) 2 1) × (flat_fits s.data_size && layers_fit s.«data» ≡ false)
-DataAnswer s (Err (OutOfMemory error)) = Unit {0}
+DataAnswer s = FailureSays (DataMade s) (DataUnfit s) (flat_fits s.data_size ≡ true)
 
+-- the loaded machine of a set-up that no check refuses, with the longest waits
+abbrev pub AssemblyMade : Setup → List ℕ → Assembly Guesser ChosenMemory ChosenMemory → Type 0
+AssemblyMade s image a =
+    (refusal_of s (length image) ≡ None) × Assembled s image a.machine
+    × (a.longest ≡ longest_of s)
+
+-- The loaded machine, or the refusal of the set-up. There may be no memory only where the layers over the instructions fit.
 abbrev pub AssemblyAnswer : Setup → List ℕ → Result (Assembly Guesser ChosenMemory ChosenMemory) Failure → Type 0
-AssemblyAnswer s image (Ok a) = (refusal_of s (length image) ≡ None) × Assembled s image a.machine × (a.longest ≡ longest_of s)
-AssemblyAnswer s image (Err (Refused why)) = refusal_of s (length image) ≡ Some (number why)
-AssemblyAnswer s image (Err (OutOfMemory error)) = Unit {0}
+AssemblyAnswer s image =
+    FailureSays (AssemblyMade s image) (λ why. refusal_of s (length image) ≡ Some why)
+    (layers_fit s.instructions ≡ true)
 
 -- ---- all of it
 
@@ -110,16 +130,15 @@ pub record Timed (s : Setup) (image text : List ℕ) : Type 0 where
   pub assembled : Assembled s image first
   pub run : Shown chosen_table chosen_means chosen_means s (longest_of s) first text
 
--- an image is padded with zeros
-abbrev pub padded_image : List ℕ → List ℕ
-padded_image input = input ++ replicate (padded_size (length input) - length input) 0
-
 -- the number of the refusal: the image's, or else the set-up's
 abbrev pub refused_by : Setup → List ℕ → ℕ → Type 0
-refused_by s input why = ((why ≡ 1) × (65536 < length input)) ⊎ ((length input ≤ 65536) × (refusal_of s (length (padded_image input)) ≡ Some why))
+refused_by s input why =
+    TooLong input why
+    ⊎ ((length input ≤ 65536) × (refusal_of s (length (padded_image input)) ≡ Some why))
 
--- what is answered to a set-up and an input
+-- What is answered to a set-up and an input. There may be no memory only for an input that is not refused.
 abbrev pub TimingAnswer : Setup → List ℕ → Result (String Global) Failure → Type 0
-TimingAnswer s input (Ok text) = (length input ≤ 65536) × Timed s (padded_image input) (string_bytes text)
-TimingAnswer s input (Err (Refused why)) = refused_by s input (number why)
-TimingAnswer s input (Err (OutOfMemory error)) = Unit {0}
+TimingAnswer s input =
+    FailureSays
+    (λ text. (length input ≤ 65536) × Timed s (padded_image input) (string_bytes text))
+    (refused_by s input) (length input ≤ 65536)

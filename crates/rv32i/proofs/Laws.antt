@@ -1,5 +1,5 @@
 -- What the machines above use of the pieces of an instruction. Assumes nothing.
-use Rattle.std.proofs.Common.{◌≡◌, ℕ, ◌%◌, Bool, true, false, cond, eqb, get_or, Some, None, Ok, Err, Option, Result, refl, ◌∙◌, arith, get_or-set_other}
+use Rattle.std.proofs.Common.{◌≡◌, ℕ, ◌%◌, Bool, true, false, cond, eqb, ◌≢◌, Some, None, Ok, Err, Option, Result, refl, arith}
 use Rattle.std.proofs.lemmas.Bool.Decides.{nat_tests}
 use Rattle.std.proofs.lemmas.Bool.{eqb-false}
 use Rattle.base.specs.Bytes.{within}
@@ -9,10 +9,10 @@ use Rattle.rv32i.specs.declared.cause.Cause.{Cause}
 use Rattle.rv32i.specs.declared.effect.Access.{Access}
 use Rattle.rv32i.specs.declared.effect.Effect.{Effect}
 use Rattle.rv32i.specs.declared.instruction.Instruction.{Instruction}
+use Rattle.rv32i.specs.declared.instruction.Instruction.TheVariants.{Jalr, Branch, Load as Loads, Store as Stores, Immediate, Shift, Register}
 use Rattle.rv32i.specs.declared.register.Register.{Register as Reg}
-use Rattle.rv32i.specs.declared.registers.Registers.{Registers}
-use Rattle.rv32i.specs.Effects.{request, executed, destination}
-use Rattle.rv32i.specs.Registers.{nonzero, written}
+use Rattle.rv32i.specs.Effects.{first_source, second_source, request, executed}
+use Rattle.rv32i.specs.Registers.{nonzero}
 
 -- a request is for a word of the memory
 abbrev pub InRange : ℕ → Result (Option Request) Cause → Type 0
@@ -34,16 +34,32 @@ pub next_aligned : (i : Instruction) (p a b : ℕ) → p % 4 ≡ 0 → NextAlign
 unfolding executed
 next_aligned i p a b h = grind (arith, nat_tests)
 
--- x0 is written by no instruction, so that it stays 0 in a file where it is 0
-nonzero_kept : (f : Registers) (r : Reg) (v : ℕ) (b : Bool) → eqb r.number 0 ≡ b → get_or f.values 0 0 ≡ 0
-    → get_or (written f (cond b None (Some r)) v).values 0 0 ≡ 0
-nonzero_kept f r v true e h = h
-nonzero_kept f r v false e h = get_or-set_other f.values r.number 0 v 0 (λ i. eqb-false r.number 0 e (omega arith)) ∙ h
+-- no instruction reads x0 as a register
+abbrev pub NotX0 : Option Reg → Type 0
+NotX0 None = Unit {0}
+NotX0 (Some r) = r.number ≢ 0
 
-module _ (f : Registers) (v : ℕ) (h : get_or f.values 0 0 ≡ 0) where
-  kept : (r : Reg) → get_or (written f (nonzero r) v).values 0 0 ≡ 0
-  kept r = nonzero_kept f r v (eqb r.number 0) refl h
+not_x0_by : (r : Reg) (b : Bool) → eqb r.number 0 ≡ b → NotX0 (cond b None (Some r))
+not_x0_by r true e = tt
+not_x0_by r false e = eqb-false r.number 0 e
 
-  pub zero_kept : (i : Instruction) → get_or (written f (destination i) v).values 0 0 ≡ 0
-  unfolding destination
-  zero_kept i = grind (arith, kept)
+not_x0 : (r : Reg) → NotX0 (nonzero r)
+not_x0 r = not_x0_by r (eqb r.number 0) refl
+
+pub first_not_x0 : (i : Instruction) → NotX0 (first_source i)
+unfolding first_source
+first_not_x0 (Jalr d r z) = not_x0 r
+first_not_x0 (Branch c r q z) = not_x0 r
+first_not_x0 (Loads k d r z) = not_x0 r
+first_not_x0 (Stores k r q z) = not_x0 r
+first_not_x0 (Immediate o d r z) = not_x0 r
+first_not_x0 (Shift o d r n) = not_x0 r
+first_not_x0 (Register o d r q) = not_x0 r
+first_not_x0 i = tt
+
+pub second_not_x0 : (i : Instruction) → NotX0 (second_source i)
+unfolding second_source
+second_not_x0 (Branch c r q z) = not_x0 q
+second_not_x0 (Stores k r q z) = not_x0 q
+second_not_x0 (Register o d r q) = not_x0 q
+second_not_x0 i = tt

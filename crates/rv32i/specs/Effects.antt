@@ -169,19 +169,9 @@ executed Ebreak p a b = Ok (goes_on p 0)
 -- ---- the data memory
 
 unfoldable pub access : Instruction → Option Access
-access (Lui d v) = None
-access (Auipc d v) = None
-access (Jal d z) = None
-access (Jalr d r z) = None
-access (Branch c r q z) = None
 access (Load k d r z) = Some (Loads k)
 access (Store k r q z) = Some (Stores k)
-access (Immediate o d r z) = None
-access (Shift o d r n) = None
-access (Register o d r q) = None
-access Fence = None
-access Ecall = None
-access Ebreak = None
+access i = None
 
 -- in bytes
 abbrev pub load_width : LoadKind → ℕ

@@ -1,6 +1,6 @@
--- Registers. Assumes nothing.
-use Rattle.std.specs.Prelude.{◌≡◌, ℕ, ◌%◌, ◌<◌, ◌≤◌, cond, Some, None, Option, Result, ◌==◌, slice_index, slice_set}
-use Rattle.std.proofs.Common.{arith}
+-- Registers; a register file is the list of its values, x0 first. Assumes nothing.
+use Rattle.std.specs.Prelude.{◌≡◌, ℕ, ◌%◌, ◌<◌, ◌≤◌, if◌then◌else◌, cond, Some, None, Option, Result, ◌==◌, slice_index, slice_set}
+use Rattle.std.proofs.Common.{mod-lt, lit<}
 use Rattle.base.specs.Refusals.{Says}
 use Rattle.base.specs.declared.refusal.Refusal.{Refusal}
 use Rattle.rv32i.specs.declared.register.Register.{Register}
@@ -8,7 +8,7 @@ use Rattle.rv32i.specs.declared.registers.Registers.{Registers}
 
 -- the register whose number stands in the low five bits
 abbrev pub register : ℕ → Register
-register n = record { number = n % 32; ok = omega arith }
+register n = record { number = n % 32; ok = mod-lt n {m = 32} (lit< tt) }
 
 -- x0 is always 0 and is never written, so there is nothing to read or to write
 abbrev pub nonzero : Register → Option Register
@@ -17,13 +17,17 @@ nonzero r = cond (r.number == 0) None (Some r)
 -- what an instruction reads
 abbrev pub operand : Registers → Option Register → ℕ
 operand f None = 0
-operand f (Some r) = slice_index f.values r.number
+operand f (Some r) = slice_index f r.number
 
--- the file once an instruction has written
+-- the file once an instruction has written; x0 stays as it is
 abbrev pub written : Registers → Option Register → ℕ → Registers
 written f None v = f
-written f (Some r) v = record { values = slice_set f.values r.number v }
+written f (Some r) v = if r.number == 0 then f else slice_set f r.number v
+
+-- the value of the register of that number, which is 0 for x0
+abbrev pub ReadAt : Registers → ℕ → ℕ → Type 0
+ReadAt f number v = (number < 32) × (v ≡ slice_index f number) × (number ≡ 0 → v ≡ 0)
 
 -- the answer of a reading of the register of that number: its value, or refusal 9 above 31
 abbrev pub RegisterRead : Registers → ℕ → Result ℕ Refusal → Type 0
-RegisterRead g number = Says (λ v. (number < 32) × (v ≡ slice_index g.values number)) (λ why. (why ≡ 9) × (32 ≤ number))
+RegisterRead f number = Says (ReadAt f number) (λ why. (why ≡ 9) × (32 ≤ number))

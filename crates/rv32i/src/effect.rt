@@ -1,6 +1,7 @@
 //! What an instruction does, in pieces: what it reads and writes, what it computes, what it asks of the data memory and
 //! what it makes of the answer.
 ghost use Rattle.std.specs.Prelude.{◌≡◌, ◌<◌};
+ghost use Rattle.rv32i.specs.Causes.{Gives};
 ghost use Rattle.rv32i.specs.Effects.{first_source, second_source, destination, arithmetic, immediate_op, shift_op, holds, goes_on, jumps, branches, executed, access, lanes_of, width, misaligned, outside, request, extracted, loaded};
 
 use crate::cause::Cause;
@@ -97,7 +98,6 @@ impl Instruction {
     }
 
     /// How it uses the data memory, if it does.
-    // No From: most instructions make no access.
     #[tactic(auto, unfolding(crate::specs::Effects::access))]
     pub fn access(self) -> Option<Access>
         ensures { result ≡ access self }
@@ -190,7 +190,7 @@ pub(crate) fn goes_on(address: u32, res: u32) -> Effect
 /// To a target, unless that is no multiple of 4.
 #[inline]
 pub(crate) fn jumps(res: u32, target: u32, outcome: Option<Outcome>) -> Result<Effect, Cause>
-    ensures { result ≡ jumps res target outcome }
+    ensures { Gives (jumps res target outcome) result }
 {
     if target % 4 == 0 {
         Ok(Effect {
@@ -206,7 +206,7 @@ pub(crate) fn jumps(res: u32, target: u32, outcome: Option<Outcome>) -> Result<E
 /// To a branch's target where it is taken, else to the next instruction.
 #[inline]
 pub(crate) fn branches(address: u32, target: u32, taken: bool) -> Result<Effect, Cause>
-    ensures { result ≡ branches address target taken }
+    ensures { Gives (branches address target taken) result }
 {
     let outcome = Some(Outcome {
         address,
@@ -228,7 +228,7 @@ impl Instruction {
     /// What the instruction at an address comes to, with the operands that it read.
     #[tactic(auto, unfolding(crate::specs::Effects::executed))]
     pub fn execute(self, address: u32, a: u32, b: u32) -> Result<Effect, Cause>
-        ensures { result ≡ executed self address a b }
+        ensures { Gives (executed self address a b) result }
     {
         match self {
             Instruction::Lui { imm, .. } => Ok(goes_on(address, imm)),
@@ -303,7 +303,6 @@ fn lanes_of(kind: StoreKind, address: u32) -> Lanes
 
 impl Access {
     /// Its width in bytes.
-    // A number of bytes, and no code.
     fn width(self) -> u32
         ensures is { result ≡ width self }
         ensures bound { 0 < result }
@@ -318,7 +317,6 @@ impl Access {
     }
 
     /// The cause where its address is not aligned to its width.
-    // An access has two causes, so each has a function and neither is a From.
     fn misaligned(self) -> Cause
         ensures { result ≡ misaligned self }
     {
@@ -329,7 +327,6 @@ impl Access {
     }
 
     /// The cause where its address is outside the data memory.
-    // As `misaligned`, the other of an access's two causes.
     fn outside(self) -> Cause
         ensures { result ≡ outside self }
     {
@@ -342,7 +339,6 @@ impl Access {
 
 /// What an instruction asks of a data memory of that size, or why it may not; `address` is the result of its execution
 /// and `b` its second operand.
-// What goes from one stage to the next, of which each function takes a part.
 #[tactic(auto, unfolding(crate::specs::Effects::request))]
 pub fn request(
     size: u32,
@@ -350,7 +346,7 @@ pub fn request(
     address: u32,
     b: u32,
 ) -> Result<Option<Request>, Cause>
-    ensures { result ≡ request size access address b }
+    ensures { Gives (request size access address b) result }
 {
     let Some(access) = access else {
         return Ok(None);
@@ -387,7 +383,6 @@ fn extract(kind: LoadKind, bytes: u32) -> u32
 }
 
 /// What a load makes of the word that it is answered; all else keeps its result.
-// What goes from one stage to the next, of which each function takes a part.
 #[tactic(auto, unfolding(crate::specs::Effects::loaded))]
 pub fn loaded(access: Option<Access>, res: u32, word: u32) -> u32
     ensures { result ≡ loaded access res word }

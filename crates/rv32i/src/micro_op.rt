@@ -1,5 +1,6 @@
 //! An instruction laid out flat, as the stages of a pipeline carry it.
 ghost use Rattle.std.specs.Prelude.{◌≡◌};
+ghost use Rattle.rv32i.specs.Causes.{Gives};
 ghost use Rattle.rv32i.specs.Effects.{first_source, second_source, destination, access, executed};
 ghost use Rattle.rv32i.specs.MicroOps.{branch_mnemonic, load_mnemonic, store_mnemonic, immediate_mnemonic, shift_mnemonic, register_mnemonic, mnemonic_of, immediate_of, ImmediateFits};
 ghost use Rattle.rv32i.specs.Targets.{target_of};
@@ -296,7 +297,7 @@ impl MicroOp {
     #[inline(always)]
     #[tactic(auto, using(crate::proofs::Flat::bits_kept), unfolding(crate::specs::Effects::executed))]
     pub fn execute(self, address: u32, a: u32, b: u32) -> Result<Effect, Cause>
-        ensures { result ≡ executed self address a b }
+        ensures { Gives (executed self address a b) result }
     {
         let imm = self.imm;
         let target = address.wrapping_add(imm);

@@ -1,14 +1,14 @@
 //! The register file.
-ghost use Rattle.std.specs.Prelude.{◌≡◌, ◌<◌, ◌≤◌, replicate, slice_index};
+ghost use Rattle.std.specs.Prelude.{◌≡◌, ◌<◌, ◌≤◌, replicate};
 ghost use Rattle.base.specs.Refusals.{Says};
 ghost use Rattle.rv32i.specs.Registers.{register, nonzero, operand, written, RegisterRead};
 
 use crate::register::Register;
 use base::refusal::Refusal;
+use std::marker::Model;
 
 impl Register {
     /// The register of that number; refused above 31.
-    // A constructor that may refuse: a TryFrom would only hide its name.
     pub fn new(number: u32) -> Result<Register, Refusal>
         ensures { Says (λ x. (number < 32) × (x.number ≡ number)) (λ why. (why ≡ 9) × (32 ≤ number)) result }
     {
@@ -46,16 +46,28 @@ impl Register {
     }
 }
 
-/// The values of x0 to x31.
+/// The values of x0 to x31; that of x0 is always 0.
 #[derive(Clone, Copy, PartialEq, Eq, Debug)]
 pub struct Registers {
     values: [u32; 32],
 }
 
+impl Model for Registers {
+    ghost use Rattle.std.specs.Prelude.{◌≡◌, ℕ, List, slice_index};
+
+    ghost Value = { List ℕ };
+
+    ghost view = { λ r. r.values };
+
+    ghost invariant = { λ r. slice_index r.values 0 ≡ 0 };
+
+    ghost inverse = { λ values. record { values = values } };
+}
+
 impl Registers {
     /// All zero.
     pub fn new() -> Registers
-        ensures { result.values ≡ replicate 32 0 }
+        ensures { result ≡ replicate 32 0 }
     {
         Registers { values: [0; 32] }
     }
@@ -67,20 +79,22 @@ impl Registers {
         source.map_or(0, |r| self.values[usize::from(r.number)])
     }
 
-    /// The value of the register of that number; refused above 31.
+    /// The value of the register of that number, 0 for x0; refused above 31.
     pub fn get(&self, number: u32) -> Result<u32, Refusal>
         ensures { RegisterRead self.now number result }
     {
         let register = Register::new(number)?;
-        Ok(self.read(Some(register)))
+        Ok(self.values[usize::from(register.number)])
     }
 
-    /// Sets a register, if there is one to set.
+    /// Sets a register, if there is one to set; x0 stays 0.
     pub fn write(&mut self, destination: Option<Register>, value: u32)
         ensures { self.new ≡ written self.old destination value }
     {
         if let Some(r) = destination {
-            self.values[usize::from(r.number)] = value;
+            if r.number != 0 {
+                self.values[usize::from(r.number)] = value;
+            }
         }
     }
 }

@@ -2,6 +2,8 @@
 use Rattle.std.proofs.Common.{◌≡◌, ℕ, Ok, Err, Result, sym, refl, ap}
 use mathlib.Core.Path.{fun_ext}
 use Rattle.memory.specs.Meaning.{View, Same}
+use Rattle.rv32i.proofs.Given.{same_cause, given}
+use Rattle.rv32i.specs.Causes.{Gives}
 use Rattle.rv32i.specs.Effects.{executed, access, request}
 use Rattle.words.specs.Issues.{issued}
 use Rattle.rv32i.specs.declared.cause.Cause.{Cause}
@@ -14,14 +16,12 @@ use Rattle.sequential.specs.declared.record.Retirement.{Retirement}
 -- what a transfer comes to, by the answer
 pub transfer_ok : {D : Type 0} (v : View D) (m n : D) (t : Result Transfer Cause) (y : ℕ) → ComesTo v m t (Ok y) n
     → t ≡ Ok (record { value = y; bytes = v.byte n })
-transfer_ok v m n (Ok t) y h =
-    let e : y ≡ t.value = cc h.0 in
-    ap (λ (x : Transfer). Ok x) (λ i. record { value = sym e i; bytes = sym h.1 i })
-transfer_ok v m n (Err c) y h = cc h.0
+transfer_ok v m n (Ok t) y h = ap (λ (x : Transfer). Ok x) (λ i. record { value = sym h.0 i; bytes = sym h.1 i })
+transfer_ok v m n (Err c) y h = absurd h.0
 
 pub transfer_err : {D : Type 0} (v : View D) (m n : D) (t : Result Transfer Cause) (c : Cause) → ComesTo v m t (Err c) n → (t ≡ Err c) × (v.byte n ≡ v.byte m)
-transfer_err v m n (Ok t) c h = (cc h.0, cc h.0)
-transfer_err v m n (Err z) c h = (cc h.0, h.1)
+transfer_err v m n (Ok t) c h = absurd h.0
+transfer_err v m n (Err z) c h = (ap Err (sym (same_cause c z h.0)), h.1)
 
 -- the world is fixed by the two sizes and the image
 pub same_world : {I D : Type 0} (text : View I) (bytes : View D) (i j : I) (d e : D) → Same text i j → bytes.size e ≡ bytes.size d
@@ -37,25 +37,25 @@ pub retires : (world : World) (s t : State) (p : Step) (r : Result Retirement Ca
 retires world s t p r e i h = rw (e, i, h) (refl, refl)
 
 module _ (world : World) (s : State) where
-  pub at_fetch : (c : Cause) → Err c ≡ fetch world.text_size world.text s.address → step world s ≡ Err c
+  pub at_fetch : (c : Cause) → Gives (fetch world.text_size world.text s.address) (Err c) → step world s ≡ Err c
   unfolding step
-  at_fetch c e = rw (← e)
+  at_fetch c e = let word = given _ _ e in rw (← word)
 
-  module _ (w : ℕ) (e1 : Ok w ≡ fetch world.text_size world.text s.address) where
-    pub at_issue : (c : Cause) → Err c ≡ issued w → step world s ≡ Err c
+  module _ (w : ℕ) (word : Gives (fetch world.text_size world.text s.address) (Ok w)) where
+    pub at_issue : (c : Cause) → Gives (issued w) (Err c) → step world s ≡ Err c
     unfolding step
-    at_issue c e = rw (← e1, ← e)
+    at_issue c e = let e1 = given _ _ word in let e2 = given _ _ e in rw (← e1, ← e2)
 
-    module _ (i : Instruction) (e2 : Ok i ≡ issued w) where
-      pub at_execute : (c : Cause) → Err c ≡ executed i s.address (first_operand s i) (second_operand s i) → step world s ≡ Err c
+    module _ (i : Instruction) (instruction : Gives (issued w) (Ok i)) where
+      pub at_execute : (c : Cause) → Gives (executed i s.address (first_operand s i) (second_operand s i)) (Err c) → step world s ≡ Err c
       unfolding step
-      at_execute c e = rw (← e1, ← e2, ← e)
+      at_execute c e = let e1 = given _ _ word in let e2 = given _ _ instruction in let e3 = given _ _ e in rw (← e1, ← e2, ← e3)
 
-      module _ (e : Effect) (e3 : Ok e ≡ executed i s.address (first_operand s i) (second_operand s i)) where
+      module _ (e : Effect) (effect : Gives (executed i s.address (first_operand s i) (second_operand s i)) (Ok e)) where
         pub at_transfer : (c : Cause) → transferred s.bytes (access i) e.result (request world.data_size (access i) e.result (second_operand s i)) ≡ Err c → step world s ≡ Err c
         unfolding step
-        at_transfer c e4 = rw (← e1, ← e2, ← e3, e4)
+        at_transfer c e4 = let e1 = given _ _ word in let e2 = given _ _ instruction in let e3 = given _ _ effect in rw (← e1, ← e2, ← e3, e4)
 
         pub at_end : (t : Transfer) → transferred s.bytes (access i) e.result (request world.data_size (access i) e.result (second_operand s i)) ≡ Ok t → step world s ≡ Ok (stepped s w i e t)
         unfolding step
-        at_end t e4 = rw (← e1, ← e2, ← e3, e4)
+        at_end t e4 = let e1 = given _ _ word in let e2 = given _ _ instruction in let e3 = given _ _ effect in rw (← e1, ← e2, ← e3, e4)

@@ -8,18 +8,20 @@ use Rattle.base.specs.declared.bus.Request.TheVariants.{Read, Write}
 use Rattle.memory.specs.Meaning.{View, Same, Settled}
 use Rattle.memory.specs.Meaning.{Reply}
 use Rattle.memory.specs.declared.Answer.TheVariants.{Word, Done}
-use Rattle.memory.specs.declared.Unserved.TheVariants.{Wait, Outside}
+use Rattle.memory.specs.declared.Unserved.TheVariants.{Outside}
 use Rattle.rv32i.specs.declared.cause.Cause.{Cause}
 use Rattle.rv32i.specs.declared.cause.Cause.TheVariants.{JumpMisaligned, FetchOutside}
 use Rattle.rv32i.specs.declared.effect.Access.{Access}
+use Rattle.rv32i.proofs.Given.{given}
+use Rattle.rv32i.specs.Causes.{Gives}
 use Rattle.rv32i.specs.Effects.{request, loaded}
 use Rattle.rv32i.proofs.Laws.{InRange, in_range}
 use Rattle.sequential.specs.Sequential.{fetch}
 use Rattle.sequential.specs.Stepping.{fetched, completed, Transferred}
 
-pub fetch_misaligned : (size : ℕ) (text : ℕ → ℕ) (a : ℕ) → (a % 4 ≡ 0 → ⊥) → Err JumpMisaligned ≡ fetch size text a
+pub fetch_misaligned : (size : ℕ) (text : ℕ → ℕ) (a : ℕ) → (a % 4 ≡ 0 → ⊥) → Gives (fetch size text a) (Err JumpMisaligned)
 unfolding fetch
-fetch_misaligned size text a h = rw (ne_eqb _ _ h)
+fetch_misaligned size text a h = rw (ne_eqb _ _ h) refl
 
 module _ {M : Type 0} (v : View M) (m n : M) where
   fetch_inside : (a w : ℕ) → within (v.size m) a ≡ true → w ≡ word (v.byte m) a → Ok w ≡ fetch (v.size m) (v.byte m) a
@@ -33,26 +35,29 @@ module _ {M : Type 0} (v : View M) (m n : M) where
       let o : ltb a (v.size m) ≡ false = rw z at h in
       rw (z, o)
 
-  pub fetches : (a : ℕ) (r : Reply) → a % 4 ≡ 0 → Settled v m (Read a) r n → (fetched r ≡ fetch (v.size m) (v.byte m) a) × Same v m n
-  fetches a (Ok (Word w)) e h = (fetch_inside a w h.0 h.1, h.2)
-  fetches a (Ok Done) e h = absurd h
-  fetches a (Err Wait) e h = absurd h
-  fetches a (Err Outside) e h = (fetch_outside a e h.0, h.1)
+  fetches_by : (a : ℕ) (r : Reply) → a % 4 ≡ 0 → Settled v m (Read a) r n → (fetched r ≡ fetch (v.size m) (v.byte m) a) × Same v m n
+  fetches_by a (Err Outside) e h = (fetch_outside a e h.0, h.1)
+  fetches_by a (Ok (Word w)) e h = (fetch_inside a w h.0 h.1, h.2)
+  fetches_by a _ e h = absurd h
+
+  pub fetches : (a : ℕ) (r : Reply) (z : Result ℕ Cause) → a % 4 ≡ 0 → Gives (fetched r) z → Settled v m (Read a) r n
+      → Gives (fetch (v.size m) (v.byte m) a) z × Same v m n
+  fetches a r z e k h =
+      let p = fetches_by a r e h in
+      (subst (λ (x : Result ℕ Cause). Gives x z) p.0 k, p.1)
 
   transfers_by : (q : Request) (how : Option Access) (x : ℕ) (r : Reply) → InRange (v.size m) (Ok (Some q)) → Settled v m q r n
       → Transferred v m (Ok (Some q)) how x (Ok (completed how x r)) n
-  transfers_by (Read a) how x (Ok (Word w)) k h = ((ap (λ (y : ℕ). Ok (loaded how x y)) h.1, fun_ext h.2.byte), h.2.size)
-  transfers_by (Read a) how x (Ok Done) k h = absurd h
-  transfers_by (Read a) how x (Err Wait) k h = absurd h
   transfers_by (Read a) how x (Err Outside) k h = absurd (both_ways _ h.0 k)
-  transfers_by (Write a w l) how x (Ok (Word y)) k h = absurd h
-  transfers_by (Write a w l) how x (Ok Done) k h = ((refl, fun_ext h.1.byte), h.1.size)
-  transfers_by (Write a w l) how x (Err Wait) k h = absurd h
   transfers_by (Write a w l) how x (Err Outside) k h = absurd (both_ways _ h.0 k)
+  transfers_by (Read a) how x (Ok (Word w)) k h = ((ap (λ (y : ℕ). loaded how x y) h.1, fun_ext h.2.byte), h.2.size)
+  transfers_by (Write a w l) how x (Ok Done) k h = ((refl, fun_ext h.1.byte), h.1.size)
+  transfers_by _ how x _ k h = absurd h
 
-  pub transfers : (q : Request) (how : Option Access) (x b y : ℕ) (r : Reply) → Ok (Some q) ≡ request (v.size m) how x b → y ≡ completed how x r → Settled v m q r n
+  pub transfers : (q : Request) (how : Option Access) (x b y : ℕ) (r : Reply) → Gives (request (v.size m) how x b) (Ok (Some q)) → y ≡ completed how x r → Settled v m q r n
       → Transferred v m (request (v.size m) how x b) how x (Ok y) n
-  transfers q how x b y r e i h =
+  transfers q how x b y r asked i h =
+      let e = given _ _ asked in
       let k : InRange (v.size m) (Ok (Some q)) =
       subst (λ (z : Result (Option Request) Cause). InRange (v.size m) z) (sym e) (in_range (v.size m) how x b) in
       subst (λ (z : Result (Option Request) Cause). Transferred v m z how x (Ok y) n) e (rw i (transfers_by q how x r k h))

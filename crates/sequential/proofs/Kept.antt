@@ -1,6 +1,6 @@
--- What every step keeps: an address that is a multiple of 4, and x0. Assumes nothing.
-use Rattle.std.proofs.Common.{◌≡◌, ℕ, ◌%◌, get_or, Some, None, Ok, Err, Option, Result}
-use Rattle.rv32i.proofs.Laws.{NextAligned, next_aligned, zero_kept}
+-- Every step keeps an address that is a multiple of 4. Assumes nothing.
+use Rattle.std.proofs.Common.{◌≡◌, ℕ, ◌%◌, Some, None, Ok, Err, Option, Result}
+use Rattle.rv32i.proofs.Laws.{NextAligned, next_aligned}
 use Rattle.rv32i.specs.Effects.{executed, access, request}
 use Rattle.words.specs.Issues.{issued}
 use Rattle.rv32i.specs.declared.cause.Cause.{Cause}
@@ -11,9 +11,8 @@ use Rattle.sequential.specs.Stepping.{Comes, Stepped}
 use Rattle.sequential.specs.declared.record.Retirement.{Retirement}
 use Rattle.sequential.specs.declared.record.Stop.{Stop}
 
-pub record Keeps (s t : State) : Type 0 where
-  pub aligned : s.address % 4 ≡ 0 → t.address % 4 ≡ 0
-  pub zero : get_or s.registers.values 0 0 ≡ 0 → get_or t.registers.values 0 0 ≡ 0
+abbrev pub Keeps : State → State → Type 0
+Keeps s t = s.address % 4 ≡ 0 → t.address % 4 ≡ 0
 
 -- by what a step comes to
 abbrev pub KeepsBy : State → Result Step Cause → Type 0
@@ -23,7 +22,7 @@ KeepsBy s (Err c) = Unit {0}
 module _ (world : World) (s : State) where
   from_transfer : (w : ℕ) (i : Instruction) (e : Effect) → (s.address % 4 ≡ 0 → e.next % 4 ≡ 0) → (t : Result Transfer Cause) → KeepsBy s (then t (λ t. Ok (stepped s w i e t)))
   from_transfer w i e h (Err c) = tt
-  from_transfer w i e h (Ok t) = record { aligned = h; zero = λ z. zero_kept s.registers t.value z i }
+  from_transfer w i e h (Ok t) = h
 
   from_execution : (w : ℕ) (i : Instruction) (x : Result Effect Cause) → (s.address % 4 ≡ 0 → NextAligned x)
       → KeepsBy s (then x (λ e.
@@ -57,8 +56,8 @@ module _ (world : World) (s : State) where
 -- by what a call of step does
 comes_keeps : (s t : State) (x : Result Step Cause) (r : Result Retirement Stop) (o : Option Stop) → KeepsBy s x → Comes s x r t o → Keeps s t
 comes_keeps s t (Ok p) r o k h = rw h.1 k
-comes_keeps s t (Err c) r o k h = rw h.1 (record { aligned = λ a. a; zero = λ z. z })
+comes_keeps s t (Err c) r o k h = rw h.1 (λ a. a)
 
 pub stepped_keeps : (world : World) (s t : State) (o q : Option Stop) (r : Result Retirement Stop) → Stepped world s o r t q → Keeps s t
 stepped_keeps world s t None q r h = comes_keeps s t (step world s) r q (step_keeps world s) h
-stepped_keeps world s t (Some stop) q r h = rw h.1 (record { aligned = λ a. a; zero = λ z. z })
+stepped_keeps world s t (Some stop) q r h = rw h.1 (λ a. a)

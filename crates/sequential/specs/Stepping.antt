@@ -1,10 +1,11 @@
 -- What a call of step does to a machine, which may have stopped. Assumes nothing.
 use Rattle.std.specs.Prelude.{◌≡◌, ℕ, Some, None, Ok, Err, Option, Result}
+use Rattle.base.specs.Refusals.{Answers}
 use Rattle.memory.specs.Meaning.{View}
 use Rattle.base.specs.declared.bus.Request.{Request}
 use Rattle.memory.specs.Meaning.{Reply}
-use Rattle.memory.specs.declared.Answer.TheVariants.{Word, Done}
-use Rattle.memory.specs.declared.Unserved.TheVariants.{Wait, Outside}
+use Rattle.memory.specs.declared.Answer.TheVariants.{Word}
+use Rattle.rv32i.specs.Causes.{cause_number, Gives}
 use Rattle.rv32i.specs.Effects.{loaded}
 use Rattle.rv32i.specs.declared.cause.Cause.{Cause}
 use Rattle.rv32i.specs.declared.cause.Cause.TheVariants.{FetchOutside}
@@ -26,37 +27,46 @@ module _ {I D : Type 0} (bytes : View D) where
 -- the word that a fetch was answered
 abbrev pub fetched : Reply → Result ℕ Cause
 fetched (Ok (Word w)) = Ok w
-fetched (Ok Done) = Err FetchOutside
-fetched (Err Wait) = Err FetchOutside
-fetched (Err Outside) = Err FetchOutside
+fetched r = Err FetchOutside
 
 -- the value of an instruction with the result x, once the data memory has replied
 abbrev pub completed : Option Access → ℕ → Reply → ℕ
 completed how x (Ok (Word w)) = loaded how x w
-completed how x (Ok Done) = x
-completed how x (Err Wait) = x
-completed how x (Err Outside) = x
+completed how x r = x
 
 -- the answer r of a transfer, and the data memory n after it: a cause leaves the bytes as they were
 abbrev pub ComesTo : {D : Type 0} → View D → D → Result Transfer Cause → Result ℕ Cause → D → Type 0
-ComesTo bytes m (Ok t) r n = (r ≡ Ok t.value) × (bytes.byte n ≡ t.bytes)
-ComesTo bytes m (Err c) r n = (r ≡ Err c) × (bytes.byte n ≡ bytes.byte m)
+ComesTo bytes m (Ok t) r n = Gives (Ok t.value) r × (bytes.byte n ≡ t.bytes)
+ComesTo bytes m (Err c) r n = Gives (Err c) r × (bytes.byte n ≡ bytes.byte m)
 
 abbrev pub Transferred : {D : Type 0} → View D → D → Result (Option Request) Cause → Option Access → ℕ → Result ℕ Cause → D → Type 0
 Transferred bytes m q how x r n = ComesTo bytes m (transferred (bytes.byte m) how x q) r n × (bytes.size n ≡ bytes.size m)
 
 -- by what the step comes to: the answer, and the state after it
 abbrev pub Advances : State → Result Step Cause → Result Retirement Cause → State → Type 0
-Advances s (Ok p) r t = (r ≡ Ok p.retirement) × (t ≡ p.after)
-Advances s (Err c) r t = (r ≡ Err c) × (t ≡ s)
+Advances s (Ok p) r t = Gives (Ok p.retirement) r × (t ≡ p.after)
+Advances s (Err c) r t = Gives (Err c) r × (t ≡ s)
 
--- and whether the machine has now stopped
+-- What an answer of step says: the retirements that may come with it, and the numbers and the addresses of the stops.
+abbrev pub StopSays : (Retirement → Type 0) → (ℕ → ℕ → Type 0) → Result Retirement Stop → Type 0
+StopSays retires stops = Answers (λ stop. cause_number stop.cause) retires (λ n stop. stops n stop.address)
+
+abbrev pub Retires : Retirement → Result Retirement Stop → Type 0
+Retires x = StopSays (λ y. y ≡ x) (λ _ _. ⊥)
+
+abbrev pub Stops : Stop → Result Retirement Stop → Type 0
+Stops stop = StopSays (λ _. ⊥) (λ n a. (n ≡ cause_number stop.cause) × (a ≡ stop.address))
+
+-- the stop of a machine in that state, with that cause
+abbrev pub stop_at : State → Cause → Stop
+stop_at s c = record { address = s.address; cause = c }
+
+-- by what the step comes to: the answer, the state after it, and whether the machine has now stopped
 abbrev pub Comes : State → Result Step Cause → Result Retirement Stop → State → Option Stop → Type 0
-Comes s (Ok p) r t o = (r ≡ Ok p.retirement) × (t ≡ p.after) × (o ≡ None)
-Comes s (Err c) r t o =
-    (r ≡ Err (record { address = s.address; cause = c })) × (t ≡ s) × (o ≡ Some (record { address = s.address; cause = c }))
+Comes s (Ok p) r t o = Retires p.retirement r × (t ≡ p.after) × (o ≡ None)
+Comes s (Err c) r t o = Stops (stop_at s c) r × (t ≡ s) × (o ≡ Some (stop_at s c))
 
 -- a machine that has stopped stays as it is
 abbrev pub Stepped : World → State → Option Stop → Result Retirement Stop → State → Option Stop → Type 0
-Stepped world s (Some stop) r t o = (r ≡ Err stop) × (t ≡ s) × (o ≡ Some stop)
+Stepped world s (Some stop) r t o = Stops stop r × (t ≡ s) × (o ≡ Some stop)
 Stepped world s None r t o = Comes s (step world s) r t o

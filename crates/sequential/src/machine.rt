@@ -1,6 +1,7 @@
 //! The machine that runs.
-ghost use Rattle.std.specs.Prelude.{◌≡◌, ◌%◌, ◌<◌, ◌≤◌, replicate, None, slice_index};
+ghost use Rattle.std.specs.Prelude.{◌≡◌, ◌%◌, ◌<◌, ◌≤◌, replicate, None, IsSome};
 ghost use Rattle.memory.specs.Meaning.{Same, ByteRead};
+ghost use Rattle.rv32i.specs.Causes.{Gives};
 ghost use Rattle.rv32i.specs.Registers.{RegisterRead};
 ghost use Rattle.rv32i.specs.Effects.{request};
 ghost use Rattle.sequential.specs.Sequential.{fetch, step};
@@ -29,7 +30,7 @@ impl<I: Memory, D: Memory> Machine<I, D> {
     /// At the start address, with zero registers.
     pub fn new(start: u32, image: I, data: D) -> Machine<I, D>
         ensures address { result.address ≡ start }
-        ensures registers { result.registers.values ≡ replicate 32 0 }
+        ensures registers { result.registers ≡ replicate 32 0 }
         ensures memories { (result.image ≡ image) × (result.«data» ≡ «data») }
         ensures stopped { result.stopped ≡ None }
     {
@@ -45,7 +46,7 @@ impl<I: Memory, D: Memory> Machine<I, D> {
 
 /// The word that a fetch was answered; no other answer has one.
 fn fetched(reply: Reply) -> Result<u32, Cause>
-    ensures { result ≡ fetched reply }
+    ensures { Gives (fetched reply) result }
 {
     match reply {
         Ok(Answer::Word(word)) => Ok(word),
@@ -56,7 +57,8 @@ fn fetched(reply: Reply) -> Result<u32, Cause>
 /// The word at an address of the image, or why there is none.
 #[tactic(auto, using(crate::proofs::Answered::fetch_misaligned, crate::proofs::Answered::fetches, memory::proofs::Rules::same_as))]
 fn fetch<I: Memory>(image: &mut I, address: u32) -> Result<u32, Cause>
-    ensures word { result ≡ fetch (I.Memory.means.view.size image.old) (I.Memory.means.view.byte image.old) address }
+    ensures word { let view = I.Memory.means.view in
+        Gives (fetch (view.size image.old) (view.byte image.old) address) result }
     ensures same { Same I.Memory.means.view image.old image.new }
 {
     if address % 4 != 0 {
@@ -92,7 +94,6 @@ fn transfer<D: Memory>(data: &mut D, access: Option<Access>, res: u32, b: u32) -
 
 impl<I: Memory, D: Memory> Machine<I, D> {
     /// Does the instruction at the machine's address, unless there is a cause to stop.
-    // That the world stays the same speaks of before and after, and so stands in no type.
     fn advance(&mut self) -> Result<Retirement, Cause>
         ensures does { Advances (state_of D.Memory.means.view self.old) (step (world_of I.Memory.means.view D.Memory.means.view self.old) (state_of D.Memory.means.view self.old)) result (state_of D.Memory.means.view self.new) }
         ensures world { world_of I.Memory.means.view D.Memory.means.view self.new ≡ world_of I.Memory.means.view D.Memory.means.view self.old }
@@ -114,18 +115,16 @@ impl<I: Memory, D: Memory> Machine<I, D> {
         })
     }
 
-    /// One instruction: it retires, or the machine stops for good and changes no more.
+    /// One instruction: it retires, or the machine stops for good and changes no more; then each step answers that stop.
     pub fn step(&mut self) -> Result<Retirement, Stop>
         ensures does { Stepped (world_of I.Memory.means.view D.Memory.means.view self.old) (state_of D.Memory.means.view self.old) self.old.stopped result (state_of D.Memory.means.view self.new) self.new.stopped }
         ensures world { world_of I.Memory.means.view D.Memory.means.view self.new ≡ world_of I.Memory.means.view D.Memory.means.view self.old }
+        ensures for_good { IsSome self.old.stopped → self.new ≡ self.old }
         ensures aligned { self.old.address % 4 ≡ 0 → self.new.address % 4 ≡ 0 }
-        ensures zero { slice_index self.old.registers.values 0 ≡ 0 → slice_index self.new.registers.values 0 ≡ 0 }
     {
-        // a stop is an answer, and no failure of what follows
         if let Some(stop) = self.stopped {
             return Err(stop);
         }
-        // no `map_err`: the machine is changed on the way
         match self.advance() {
             Ok(retirement) => Ok(retirement),
             Err(cause) => {
@@ -146,7 +145,7 @@ impl<I: Memory, D: Memory> Machine<I, D> {
         self.address
     }
 
-    /// The value of a register; refused above 31.
+    /// The value of a register, 0 for x0; refused above 31.
     pub fn register(&self, number: u32) -> Result<u32, Refusal>
         ensures { RegisterRead self.now.registers number result }
     {

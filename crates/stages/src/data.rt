@@ -1,5 +1,6 @@
 //! The data stage: M goes to W, with the data memory's answer.
 ghost use Rattle.std.specs.Prelude.{◌≡◌};
+ghost use Rattle.rv32i.specs.Causes.{Gives};
 ghost use Rattle.clocking.specs.declared.latch.Latch.TheVariants.{Full};
 ghost use Rattle.clocking.specs.Stages.{data_request, sent, complete, data_stage};
 
@@ -13,7 +14,7 @@ use sequential::record::Stop;
 
 /// What M asks of a data memory of that size, or the cause that its address has.
 pub fn data_request(size: u32, m: &Latch<Executed>) -> Result<Option<Request>, Cause>
-    ensures { result ≡ data_request size m.now }
+    ensures { Gives (data_request size m.now) result }
 {
     match *m {
         Latch::Full(e) => request(size, e.access, e.result, e.b),

@@ -1,5 +1,6 @@
 //! The execute stage: X goes to M, computed.
 ghost use Rattle.std.specs.Prelude.{◌≡◌, None};
+ghost use Rattle.rv32i.specs.Causes.{Gives};
 ghost use Rattle.clocking.specs.Stages.{execute, execute_stage, held_up};
 
 use clocking::latch::{Decoded, Executed, Latch};
@@ -28,7 +29,7 @@ impl From<Flow> for Executing {
 
 /// What the instruction comes to, or why it may not.
 pub fn execute(d: Decoded) -> Result<Executed, Cause>
-    ensures { result ≡ execute d }
+    ensures { Gives (execute d) result }
 {
     let effect = d.instruction.execute(d.address, d.a, d.b)?;
     Ok(Executed {
@@ -44,7 +45,6 @@ pub fn execute(d: Decoded) -> Result<Executed, Cause>
 }
 
 /// What becomes of a latch before which nothing moves: it stays, unless it is empty.
-// No From: what becomes of a latch that is held up is no other form of it.
 pub(crate) fn held_up<T: Copy>(latch: &Latch<T>) -> Flow
     ensures { result ≡ held_up latch.now }
 {

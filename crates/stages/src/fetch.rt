@@ -1,5 +1,6 @@
 //! The fetch stage: the word at F goes to D, and F on to the guess.
 ghost use Rattle.std.specs.Prelude.{◌≡◌};
+ghost use Rattle.rv32i.specs.Causes.{Gives};
 ghost use Rattle.clocking.specs.Stages.{fetching, fetch_stage};
 
 use base::bus::Request;
@@ -10,7 +11,7 @@ use sequential::record::Stop;
 
 /// What is asked of an instruction memory of that size for F, or the cause that F has, by what became of D.
 pub fn fetching(size: u32, f: u32, flow: Flow) -> Result<Option<Request>, Cause>
-    ensures { result ≡ fetching size f flow }
+    ensures { Gives (fetching size f flow) result }
 {
     match flow {
         Flow::Stays | Flow::RollsBack => Ok(None),

@@ -14,6 +14,7 @@ use std::fmt::Write;
 use std::process::Abort;
 use std::test::Fail;
 use wait_states::WaitStates;
+use write_buffer::WriteBuffer;
 
 /// What a run of at most 1000 clocks prints.
 fn print_of<P: Predictor + Drop, I: Memory + Drop, D: Memory + Drop>(
@@ -153,6 +154,97 @@ fn a_fetch_wait(rt: HostRuntime) -> Result<(), Fail> {
         "1 6 0 200093 1 2\n",
         "1 0 - - - - f\n2 0 - - - - -\n3 4 0 - - - f\n4 4 - 0 - - -\n5 8 4 - 0 - f\n6 8 - 4 - 0 -\n7 c 8 - 4 - r\n8 c - - - 4 s\n",
         "stop 11 4 fetched 3 retired 1 dropped 1",
+    )
+}
+
+// Which notes can stand in one clock: `hd` and `fd`, and no others. In the clock of `s` no other step is taken. After `r` what
+// was in D is dropped and nothing is fetched, and a data memory that is asked and says Wait keeps execute from rolling back.
+// With `h` D stays, so nothing is fetched.
+
+/// `add` wants what `lw` before it loads, while that is in execute (`h`) and while the data memory says Wait to it (`hd`). It
+/// takes 0 of the load, and not the 5 of the older `addi`.
+#[test]
+fn a_hazard_in_a_data_wait(rt: HostRuntime) -> Result<(), Fail> {
+    let heap = rt.alloc();
+    let words = [0x0050_0093, 0x0000_2083, 0x0010_8133, 0x0000_0073];
+    let data = WaitStates::new(data_memory(heap)?, 1);
+    prints(
+        &rt,
+        heap,
+        load(0, 0, Never, image_of(heap, &words)?, data),
+        "1 5 0 500093 1 5\n2 7 4 2083 1 0\n3 9 8 108133 2 0\n",
+        "1 0 - - - - -\n2 4 0 - - - -\n3 8 4 0 - - -\n4 c 8 4 0 - h\n5 c 8 - 4 0 hd\n6 c 8 - 4 - -\n7 10 c 8 - 4 -\n8 14 10 c 8 - -\n9 18 14 10 c 8 r\n10 18 - - - c s\n",
+        "stop 11 c fetched 6 retired 3 dropped 2",
+    )
+}
+
+/// `sw` is taken by a write buffer at once. The `lw` after it is told Wait three times: while the write gets its one Wait below
+/// and is done there, and then by its own Wait; `add` waits for the 5 of it as long.
+#[test]
+fn a_hazard_behind_a_write_buffer(rt: HostRuntime) -> Result<(), Fail> {
+    let heap = rt.alloc();
+    let words = [
+        0x0050_0093,
+        0x0010_2023,
+        0x0000_2103,
+        0x0011_01b3,
+        0x0000_0073,
+    ];
+    let data = WriteBuffer::new(WaitStates::new(data_memory(heap)?, 1));
+    prints(
+        &rt,
+        heap,
+        load(0, 0, Never, image_of(heap, &words)?, data),
+        "1 5 0 500093 1 5\n2 6 4 102023 - 0\n3 10 8 2103 2 5\n4 12 c 1101b3 3 a\n",
+        "1 0 - - - - -\n2 4 0 - - - -\n3 8 4 0 - - -\n4 c 8 4 0 - -\n5 10 c 8 4 0 h\n6 10 c - 8 4 hd\n7 10 c - 8 - hd\n8 10 c - 8 - hd\n9 10 c - 8 - -\n10 14 10 c - 8 -\n11 18 14 10 c - -\n12 1c 18 14 10 c r\n13 1c - - - 10 s\n",
+        "stop 11 10 fetched 7 retired 4 dropped 2",
+    )
+}
+
+/// Both memories say Wait in clock 5 (`fd`). In clock 6 the `lw` still waits and `ecall` stays behind it, but D is empty, so 8 is
+/// fetched.
+#[test]
+fn both_memories_wait(rt: HostRuntime) -> Result<(), Fail> {
+    let heap = rt.alloc();
+    let image = WaitStates::new(image_of(heap, &[0x0000_2083, 0x0000_0073])?, 1);
+    let data = WaitStates::new(data_memory(heap)?, 2);
+    prints(
+        &rt,
+        heap,
+        load(0, 0, Never, image, data),
+        "1 8 0 2083 1 0\n",
+        "1 0 - - - - f\n2 0 - - - - -\n3 4 0 - - - f\n4 4 - 0 - - -\n5 8 4 - 0 - fd\n6 8 - 4 0 - d\n7 c 8 4 0 - f\n8 c - 8 4 0 r\n9 c - - - 4 s\n",
+        "stop 11 4 fetched 3 retired 1 dropped 1",
+    )
+}
+
+/// Each word comes after three Waits, so in both rollbacks, of the `jalr` to 8 in execute and of the `ecall` in data, nothing
+/// stands behind and none is dropped.
+#[test]
+fn rollbacks_that_drop_nothing(rt: HostRuntime) -> Result<(), Fail> {
+    let heap = rt.alloc();
+    let image = WaitStates::new(image_of(heap, &[0x0080_00e7, 0x0000_0000, 0x0000_0073])?, 3);
+    prints(
+        &rt,
+        heap,
+        load(0, 0, Never, image, data_memory(heap)?),
+        "1 8 0 8000e7 1 4\n",
+        "1 0 - - - - f\n2 0 - - - - f\n3 0 - - - - f\n4 0 - - - - -\n5 4 0 - - - f\n6 4 - 0 - - r\n7 8 - - 0 - f\n8 8 - - - 0 f\n9 8 - - - - f\n10 8 - - - - -\n11 c 8 - - - f\n12 c - 8 - - f\n13 c - - 8 - r\n14 c - - - 8 s\n",
+        "stop 11 8 fetched 2 retired 1 dropped 0",
+    )
+}
+
+/// After a `jalr` fetching goes on at the next address. `jalr x1,5(x0)` goes to 4, since the lowest bit is cleared, and that is
+/// the next: no rollback. `jalr x2,8(x1)`, with the 4 in x1, goes to c, so 8 is dropped.
+#[test]
+fn jumps_to_the_next_address_and_past_it(rt: HostRuntime) -> Result<(), Fail> {
+    prints_plain(
+        &rt,
+        rt.alloc(),
+        &[0x0050_00e7, 0x0080_8167, 0x0060_0193, 0x0000_0073],
+        "1 5 0 5000e7 1 4\n2 6 4 808167 2 8\n",
+        "1 0 - - - - -\n2 4 0 - - - -\n3 8 4 0 - - -\n4 c 8 4 0 - r\n5 c - - 4 0 -\n6 10 c - - 4 -\n7 14 10 c - - -\n8 18 14 10 c - r\n9 18 - - - c s\n",
+        "stop 11 c fetched 6 retired 2 dropped 3",
     )
 }
 

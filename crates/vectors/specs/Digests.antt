@@ -1,6 +1,10 @@
 -- FNV-1a of 64 bits. Assumes nothing.
 use Rattle.std.specs.Prelude.{ℕ, ◌*◌, ◌/◌, ◌%◌, ◌^◌, bit_xor}
 
+-- the digest of no bytes
+abbrev pub offset_basis : ℕ
+offset_basis = 14695981039346656037
+
 -- a digest with one more byte
 abbrev pub with_byte : ℕ → ℕ → ℕ
 with_byte digest byte = bit_xor digest byte * 1099511628211 % 2 ^ 64

@@ -1,6 +1,6 @@
 //! A digest of many bytes, so that long runs and whole memories can be compared by one number.
 ghost use Rattle.std.specs.Prelude.{◌≡◌};
-ghost use Rattle.vectors.specs.Digests.{with_byte, with_word};
+ghost use Rattle.vectors.specs.Digests.{offset_basis, with_byte, with_word};
 
 /// FNV-1a of 64 bits.
 #[derive(Clone, Copy, PartialEq, Eq, Debug)]
@@ -8,7 +8,11 @@ pub struct Digest(pub u64);
 
 impl Digest {
     /// The digest of no bytes.
-    pub const EMPTY: Digest = Digest(0xcbf2_9ce4_8422_2325);
+    pub fn new() -> Digest
+        ensures { result.0 ≡ offset_basis }
+    {
+        Digest(0xcbf2_9ce4_8422_2325)
+    }
 
     /// With one more byte.
     pub fn byte(self, byte: u8) -> Digest

@@ -1,7 +1,7 @@
 //! Images as the vectors have them.
-ghost use Rattle.std.specs.Prelude.{◌≡◌, codes, replicate, IfOk, IfSome, string_bytes, slice_set};
+ghost use Rattle.std.specs.Prelude.{◌≡◌, replicate, IfOk, MatchOption, string_bytes, slice_set};
 ghost use Rattle.vectors.specs.Images.{with_word_at, Hexadecimal};
-ghost use Rattle.vectors.specs.Lines.{Heads, Says};
+ghost use Rattle.vectors.specs.Lines.{Says, SaysHead, SaysNothing, SaysNoHead};
 
 use std::alloc::{AllocError, Global};
 
@@ -64,19 +64,18 @@ pub fn hexadecimal(text: &str) -> Option<u32>
     u32::from_str_radix(text, 16).ok()
 }
 
-/// `NAME START SIZE`
+/// `NAME START SIZE`, the numbers in hexadecimal; none for any other text.
 fn header(rest: &str) -> Option<Line>
-    ensures { IfSome result (λ l. Heads rest.now l) }
+    ensures { MatchOption result (SaysNoHead rest.now) (SaysHead rest.now) }
 {
     let (name, rest) = rest.split_once(' ')?;
     let (start, size) = rest.split_once(' ')?;
     Some(Line::Image(name, hexadecimal(start)?, hexadecimal(size)?))
 }
 
-/// What a line says, if it says anything.
+/// What a line says; none for a text that is no line of the vectors.
 pub fn line_of(text: &str) -> Option<Line>
-    ensures says { IfSome result (λ l. Says text.now l) }
-    ensures run { text.now ≡ codes "run" → result ≡ Some Line.Run }
+    ensures { MatchOption result (SaysNothing text.now) (Says text.now) }
 {
     if text == "run" {
         return Some(Line::Run);

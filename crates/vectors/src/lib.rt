@@ -4,3 +4,5 @@
 
 pub mod digest;
 pub mod image;
+#[cfg(test)]
+mod tests;

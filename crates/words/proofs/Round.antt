@@ -1,10 +1,11 @@
 -- Decoding undoes encoding, and encoding undoes decoding. Assumes nothing.
-use Rattle.std.proofs.Common.{◌≡◌, ℕ, ◌+◌, ◌*◌, ◌/◌, ◌%◌, ◌^◌, ◌<◌, Bool, true, false, cond, eqb, ltb, [], ◌∷◌, ℤ, pos, neg_ℤ, Some, None, Ok, Option, sym, refl, ap, ◌∙◌, subst, arith}
+use Rattle.std.proofs.Common.{◌≡◌, ℕ, ◌+◌, ◌*◌, ◌/◌, ◌%◌, ◌^◌, ◌<◌, Bool, true, false, cond, eqb, ltb, [], ◌∷◌, ℤ, pos, neg_ℤ, Some, None, Ok, Err, IfOk, Option, Result, sym, refl, ap, ◌∙◌, subst, arith}
 use lib.Pow.{split}
 use lib.Signed.{le_z, lt_z}
 use Rattle.std.proofs.lemmas.Int.{ints}
 use Rattle.std.proofs.lemmas.Bool.{eqb-true}
 use Rattle.std.proofs.lemmas.Bool.Decides.{nat_tests}
+use Rattle.base.specs.declared.refusal.Refusal.{Refusal}
 use Rattle.rv32i.specs.declared.register.Register.{Register as Reg}
 use Rattle.rv32i.specs.declared.instruction.Condition.{Condition}
 use Rattle.rv32i.specs.declared.instruction.Condition.TheVariants.{Eq, Ne, Lt, Ge, Ltu, Geu}
@@ -26,7 +27,7 @@ use Rattle.words.specs.Fields.{opcode_of, rd_of, funct3_of, rs1_of, rs2_of, func
 use Rattle.words.specs.Immediates.{low_bits, twelve, branch_bits, branch_low, branch_high, jump_bits, jump_high, upper}
 use Rattle.words.specs.Operations.{Column, pick, plain, plain_or_20, branches, loads, stores, immediates, registers, jumps_by_register, fences, calls, opcodes, operation_by, operation_of}
 use Rattle.rv32i.specs.Signs.{signed}
-use Rattle.words.specs.Words.{taken_apart, if_any, decoded_by, decoded, condition_code, load_code, store_code, immediate_code, shift_codes, register_codes, held_if, word_u, word_j, word_i, word_s, word_b, encoded, Undone, Restored}
+use Rattle.words.specs.Words.{taken_apart, if_any, decoded_by, decoded, condition_code, load_code, store_code, immediate_code, shift_codes, register_codes, held_if, word_u, word_j, word_i, word_s, word_b, encoded, Encodes, Undone, Restored}
 use Rattle.rv32i.proofs.Numbered.{register_of}
 use Rattle.words.proofs.SixFields.{opcode_word, rd_word, funct3_word, rs1_word, rs2_word, funct7_word, word_fields, rest_is}
 
@@ -155,6 +156,11 @@ restored Fence = refl
 restored Ecall = refl
 restored Ebreak = refl
 
+-- so the word that an encoding answers decodes to the instruction
+pub decodes_back : (i : Instruction) (r : Result ℕ Refusal) → Encodes (encoded i) r → IfOk r (λ w. decoded w ≡ Some i)
+decodes_back i (Ok w) h = subst (λ (x : Option ℕ). Restored x i) h (restored i)
+decodes_back i (Err why) h = tt
+
 -- ---- encoding undoes decoding
 
 -- what holds at each code of a column, and where there is none
@@ -173,22 +179,22 @@ picked (nowhere k) = k
 picked {P} {n} (◌at_or◌ {c} {x} {es} k ks) = picked_by P (eqb n c) n c x (pick n es) refl k (picked ks)
 
 module _ (d f3 r1 r2 f7 : ℕ) (h1 : d < 2 ^ 5) (h2 : f3 < 2 ^ 3) (h3 : r1 < 2 ^ 5) (h4 : r2 < 2 ^ 5) (h5 : f7 < 2 ^ 7) where
-  undone_u : (op : ℕ) → word_u op (d % 32) (upper f3 r1 r2 f7) ≡ Ok (word_of op d f3 r1 r2 f7)
+  undone_u : (op : ℕ) → word_u op (d % 32) (upper f3 r1 r2 f7) ≡ Some (word_of op d f3 r1 r2 f7)
   undone_u op = grind (arith, ints, nat_tests)
 
-  undone_j : (op : ℕ) → word_j op (d % 32) (signed (2 ^ 20) (jump_bits f3 r1 r2 f7)) ≡ Ok (word_of op d f3 r1 r2 f7)
+  undone_j : (op : ℕ) → word_j op (d % 32) (signed (2 ^ 20) (jump_bits f3 r1 r2 f7)) ≡ Some (word_of op d f3 r1 r2 f7)
   undone_j op = grind (arith, ints, nat_tests)
 
-  undone_i : (op : ℕ) → word_i op f3 (d % 32) (r1 % 32) (signed 2048 (twelve r2 f7)) ≡ Ok (word_of op d f3 r1 r2 f7)
+  undone_i : (op : ℕ) → word_i op f3 (d % 32) (r1 % 32) (signed 2048 (twelve r2 f7)) ≡ Some (word_of op d f3 r1 r2 f7)
   undone_i op = grind (arith, ints, nat_tests)
 
-  undone_s : (op : ℕ) → word_s op f3 (r1 % 32) (r2 % 32) (signed 2048 (twelve d f7)) ≡ Ok (word_of op d f3 r1 r2 f7)
+  undone_s : (op : ℕ) → word_s op f3 (r1 % 32) (r2 % 32) (signed 2048 (twelve d f7)) ≡ Some (word_of op d f3 r1 r2 f7)
   undone_s op = grind (arith, ints, nat_tests)
 
-  undone_b : (op : ℕ) → word_b op f3 (r1 % 32) (r2 % 32) (signed 4096 (branch_bits d f7)) ≡ Ok (word_of op d f3 r1 r2 f7)
+  undone_b : (op : ℕ) → word_b op f3 (r1 % 32) (r2 % 32) (signed 4096 (branch_bits d f7)) ≡ Some (word_of op d f3 r1 r2 f7)
   undone_b op = grind (arith, ints, nat_tests)
 
-  undone_shift : held_if (ltb r2 32) (Ok (word_of 0x13 (d % 32) f3 (r1 % 32) r2 f7)) ≡ Ok (word_of 0x13 d f3 r1 r2 f7)
+  undone_shift : held_if (ltb r2 32) (Some (word_of 0x13 (d % 32) f3 (r1 % 32) r2 f7)) ≡ Some (word_of 0x13 d f3 r1 r2 f7)
   undone_shift = grind (arith, nat_tests)
 
   undone_register : word_of 0x33 (d % 32) f3 (r1 % 32) (r2 % 32) f7 ≡ word_of 0x33 d f3 r1 r2 f7
@@ -213,7 +219,7 @@ module _ (d f3 r1 r2 f7 : ℕ) (h1 : d < 2 ^ 5) (h2 : f3 < 2 ^ 3) (h3 : r1 < 2 ^
   at_shift o op e g k = λ _. rw (e, ← g, ← k) undone_shift
 
   at_register : (o : RegisterOp) (op : ℕ) → op ≡ 0x33 → f3 ≡ (register_codes o).0 → f7 ≡ (register_codes o).1 → Kept op (Some (ARegister o))
-  at_register o op e g k = λ _. rw (e, ← g, ← k) (ap (λ (x : ℕ). Ok x) undone_register)
+  at_register o op e g k = λ _. rw (e, ← g, ← k) (ap (λ (x : ℕ). Some x) undone_register)
 
   module _ (op : ℕ) where
     abbrev EachKept : ℕ → Column → Type 0
@@ -262,13 +268,13 @@ module _ (d f3 r1 r2 f7 : ℕ) (h1 : d < 2 ^ 5) (h2 : f3 < 2 ^ 3) (h3 : r1 < 2 ^
     at_jalr e = (λ g _. rw (e, g) (rw g at (undone_i 0x67))) at_or nowhere tt
 
     at_fence : op ≡ 0x0f → EachKept f3 fences
-    at_fence e = (λ g h. ap (λ (x : ℕ). Ok x) (sym (h refl))) at_or nowhere tt
+    at_fence e = (λ g h. ap (λ (x : ℕ). Some x) (sym (h refl))) at_or nowhere tt
 
     abbrev rest : ℕ
     rest = f7 * 2 ^ 18 + r2 * 2 ^ 13 + r1 * 2 ^ 8 + f3 * 2 ^ 5 + d
 
     at_calls : op ≡ 0x73 → EachKept rest calls
-    at_calls e = (λ g _. ap (λ (x : ℕ). Ok x) (omega arith)) at_or (λ g _. ap (λ (x : ℕ). Ok x) (omega arith)) at_or nowhere tt
+    at_calls e = (λ g _. ap (λ (x : ℕ). Some x) (omega arith)) at_or (λ g _. ap (λ (x : ℕ). Some x) (omega arith)) at_or nowhere tt
 
     at_opcodes : EachKept op (opcodes f3 f7 rest)
     at_opcodes =

@@ -1,7 +1,7 @@
 -- What a word means, the word of an instruction, and that each undoes the other. Assumes nothing.
-use Rattle.std.specs.Prelude.{◌≡◌, ℕ, ◌+◌, ◌*◌, ◌/◌, ◌%◌, ◌^◌, Bool, cond, ℤ, pos, neg_ℤ, Some, None, Ok, Err, Option, Result, ◌==◌, int_le, int_lt, nat_lt}
+use Rattle.std.specs.Prelude.{◌≡◌, ℕ, ◌+◌, ◌*◌, ◌/◌, ◌%◌, ◌^◌, Bool, if◌then◌else◌, ℤ, pos, neg_ℤ, Some, None, Option, Result, ◌==◌, int_le, int_lt, nat_lt}
+use Rattle.base.specs.Refusals.{Says}
 use Rattle.base.specs.declared.refusal.Refusal.{Refusal}
-use Rattle.base.specs.declared.refusal.Refusal.TheVariants.{NoWord}
 use Rattle.rv32i.specs.declared.instruction.Condition.{Condition}
 use Rattle.rv32i.specs.declared.instruction.Condition.TheVariants.{Eq, Ne, Lt, Ge, Ltu, Geu}
 use Rattle.rv32i.specs.declared.instruction.LoadKind.{LoadKind}
@@ -103,37 +103,37 @@ register_codes Or = (6, 0x00)
 register_codes And = (7, 0x00)
 
 -- the word, where its field holds what the instruction has
-abbrev pub held_if : Bool → Result ℕ Refusal → Result ℕ Refusal
-held_if b r = cond b r (Err NoWord)
+abbrev pub held_if : Bool → Option ℕ → Option ℕ
+held_if b word = if b then word else None
 
 -- from -h to h - 1
-abbrev pub within_range : ℕ → ℤ → Result ℕ Refusal → Result ℕ Refusal
-within_range h z r = held_if (int_le (neg_ℤ (pos h)) z) (held_if (int_lt z (pos h)) r)
+abbrev pub within_range : ℕ → ℤ → Option ℕ → Option ℕ
+within_range h z word = held_if (int_le (neg_ℤ (pos h)) z) (held_if (int_lt z (pos h)) word)
 
-abbrev pub evenly : ℕ → Result ℕ Refusal → Result ℕ Refusal
-evenly n r = held_if (n % 2 == 0) r
+abbrev pub evenly : ℕ → Option ℕ → Option ℕ
+evenly n word = held_if (n % 2 == 0) word
 
-abbrev pub word_u : ℕ → ℕ → ℕ → Result ℕ Refusal
-word_u op d v = held_if (v % 2 ^ 12 == 0) (held_if (nat_lt v (2 ^ 32)) (Ok (word_of op d (funct3_of v) (rs1_of v) (rs2_of v) (funct7_of v))))
+abbrev pub word_u : ℕ → ℕ → ℕ → Option ℕ
+word_u op d v = held_if (v % 2 ^ 12 == 0) (held_if (nat_lt v (2 ^ 32)) (Some (word_of op d (funct3_of v) (rs1_of v) (rs2_of v) (funct7_of v))))
 
-abbrev pub word_j : ℕ → ℕ → ℤ → Result ℕ Refusal
+abbrev pub word_j : ℕ → ℕ → ℤ → Option ℕ
 word_j op d z =
     within_range (2 ^ 20) z (evenly (low_bits (2 ^ 20) z) (
-    Ok (word_of op d (low_bits (2 ^ 20) z / 2 ^ 12 % 2 ^ 3) (low_bits (2 ^ 20) z / 2 ^ 15 % 2 ^ 5) (branch_low (low_bits (2 ^ 20) z)) (jump_high (low_bits (2 ^ 20) z)))
+    Some (word_of op d (low_bits (2 ^ 20) z / 2 ^ 12 % 2 ^ 3) (low_bits (2 ^ 20) z / 2 ^ 15 % 2 ^ 5) (branch_low (low_bits (2 ^ 20) z)) (jump_high (low_bits (2 ^ 20) z)))
     ))
 
-abbrev pub word_i : ℕ → ℕ → ℕ → ℕ → ℤ → Result ℕ Refusal
-word_i op f3 d r1 z = within_range 2048 z (Ok (word_of op d f3 r1 (low_bits 2048 z % 2 ^ 5) (low_bits 2048 z / 2 ^ 5)))
+abbrev pub word_i : ℕ → ℕ → ℕ → ℕ → ℤ → Option ℕ
+word_i op f3 d r1 z = within_range 2048 z (Some (word_of op d f3 r1 (low_bits 2048 z % 2 ^ 5) (low_bits 2048 z / 2 ^ 5)))
 
-abbrev pub word_s : ℕ → ℕ → ℕ → ℕ → ℤ → Result ℕ Refusal
-word_s op f3 r1 r2 z = within_range 2048 z (Ok (word_of op (low_bits 2048 z % 2 ^ 5) f3 r1 r2 (low_bits 2048 z / 2 ^ 5)))
+abbrev pub word_s : ℕ → ℕ → ℕ → ℕ → ℤ → Option ℕ
+word_s op f3 r1 r2 z = within_range 2048 z (Some (word_of op (low_bits 2048 z % 2 ^ 5) f3 r1 r2 (low_bits 2048 z / 2 ^ 5)))
 
-abbrev pub word_b : ℕ → ℕ → ℕ → ℕ → ℤ → Result ℕ Refusal
+abbrev pub word_b : ℕ → ℕ → ℕ → ℕ → ℤ → Option ℕ
 word_b op f3 r1 r2 z =
-    within_range 4096 z (evenly (low_bits 4096 z) (Ok (word_of op (branch_low (low_bits 4096 z)) f3 r1 r2 (branch_high (low_bits 4096 z)))))
+    within_range 4096 z (evenly (low_bits 4096 z) (Some (word_of op (branch_low (low_bits 4096 z)) f3 r1 r2 (branch_high (low_bits 4096 z)))))
 
--- the word of an instruction, or a refusal where a field cannot hold what it has
-abbrev pub encoded : Instruction → Result ℕ Refusal
+-- the word of an instruction, or none where a field cannot hold what it has
+abbrev pub encoded : Instruction → Option ℕ
 encoded (Lui d v) = word_u 0x37 d.number v
 encoded (Auipc d v) = word_u 0x17 d.number v
 encoded (Jal d z) = word_j 0x6f d.number z
@@ -142,20 +142,24 @@ encoded (Branch c r1 r2 z) = word_b 0x63 (condition_code c) r1.number r2.number 
 encoded (Load k d r1 z) = word_i 0x03 (load_code k) d.number r1.number z
 encoded (Store k r1 r2 z) = word_s 0x23 (store_code k) r1.number r2.number z
 encoded (Immediate o d r1 z) = word_i 0x13 (immediate_code o) d.number r1.number z
-encoded (Shift o d r1 n) = held_if (nat_lt n 32) (Ok (word_of 0x13 d.number (shift_codes o).0 r1.number n (shift_codes o).1))
-encoded (Register o d r1 r2) = Ok (word_of 0x33 d.number (register_codes o).0 r1.number r2.number (register_codes o).1)
-encoded Fence = Ok 0x0ff0000f
-encoded Ecall = Ok 0x00000073
-encoded Ebreak = Ok 0x00100073
+encoded (Shift o d r1 n) = held_if (nat_lt n 32) (Some (word_of 0x13 d.number (shift_codes o).0 r1.number n (shift_codes o).1))
+encoded (Register o d r1 r2) = Some (word_of 0x33 d.number (register_codes o).0 r1.number r2.number (register_codes o).1)
+encoded Fence = Some 0x0ff0000f
+encoded Ecall = Some 0x00000073
+encoded Ebreak = Some 0x00100073
+
+-- the answer of an encoding: the word, or refusal 10 where there is none
+abbrev pub Encodes : Option ℕ → Result ℕ Refusal → Type 0
+Encodes word = Says (λ w. word ≡ Some w) (λ why. (why ≡ 10) × (word ≡ None))
 
 -- ---- each undoes the other
 
 -- encoding undoes decoding, but for the fences other than 0ff0000f
 abbrev pub Undone : Option Instruction → ℕ → Type 0
 Undone None w = Unit {0}
-Undone (Some i) w = (i ≡ Fence → w ≡ 0x0ff0000f) → encoded i ≡ Ok w
+Undone (Some i) w = (i ≡ Fence → w ≡ 0x0ff0000f) → encoded i ≡ Some w
 
 -- decoding undoes encoding
-abbrev pub Restored : Result ℕ Refusal → Instruction → Type 0
-Restored (Ok w) i = decoded w ≡ Some i
-Restored (Err why) i = Unit {0}
+abbrev pub Restored : Option ℕ → Instruction → Type 0
+Restored None i = Unit {0}
+Restored (Some w) i = decoded w ≡ Some i

@@ -1,5 +1,6 @@
 //! From words to instructions.
 ghost use Rattle.std.specs.Prelude.{◌≡◌};
+ghost use Rattle.rv32i.specs.Causes.{Gives};
 ghost use Rattle.words.specs.Fields.{rd_of, funct3_of, rs1_of, rs2_of, funct7_of};
 ghost use Rattle.words.specs.Issues.{issued};
 ghost use Rattle.words.specs.Operations.{operation_of};
@@ -324,7 +325,7 @@ pub fn decode(word: u32) -> Option<Instruction>
 /// The instruction that a word issues, or why it issues none: an illegal word, `ebreak` and `ecall` stop the machine.
 #[tactic(auto, unfolding(crate::specs::Issues::issued))]
 pub fn issue(word: u32) -> Result<Instruction, Cause>
-    ensures { result ≡ issued word }
+    ensures { Gives (issued word) result }
 {
     let instruction = decode(word).ok_or(Cause::Illegal)?;
     match instruction {

@@ -1,6 +1,6 @@
 //! From instructions to words.
-ghost use Rattle.std.specs.Prelude.{◌≡◌};
-ghost use Rattle.words.specs.Words.{encoded, condition_code, load_code, store_code, immediate_code, shift_codes, register_codes, word_b, word_i, word_j, word_s, word_u, Restored};
+ghost use Rattle.std.specs.Prelude.{◌≡◌, Some, IfOk};
+ghost use Rattle.words.specs.Words.{decoded, encoded, Encodes, condition_code, load_code, store_code, immediate_code, shift_codes, register_codes, word_b, word_i, word_j, word_s, word_u};
 
 use crate::field::Field;
 use crate::fields::Fields;
@@ -32,7 +32,6 @@ const REGISTER: Field<7> = Field { value: 0x33 };
 
 const JALR_FUNCT3: Field<3> = Field { value: 0 };
 
-// Codes belong to words, so they are no discriminants of the instructions.
 impl From<Condition> for Field<3> {
     ghost from_gives = { λ condition x. x.value ≡ condition_code condition };
 
@@ -50,7 +49,6 @@ impl From<Condition> for Field<3> {
     }
 }
 
-// Codes belong to words, so they are no discriminants of the instructions.
 impl From<LoadKind> for Field<3> {
     ghost from_gives = { λ kind x. x.value ≡ load_code kind };
 
@@ -67,7 +65,6 @@ impl From<LoadKind> for Field<3> {
     }
 }
 
-// Codes belong to words, so they are no discriminants of the instructions.
 impl From<StoreKind> for Field<3> {
     ghost from_gives = { λ kind x. x.value ≡ store_code kind };
 
@@ -82,7 +79,6 @@ impl From<StoreKind> for Field<3> {
     }
 }
 
-// Codes belong to words, so they are no discriminants of the instructions.
 impl From<ImmediateOp> for Field<3> {
     ghost from_gives = { λ op x. x.value ≡ immediate_code op };
 
@@ -147,9 +143,8 @@ impl From<RegisterOp> for Codes {
 }
 
 /// A word of the U format.
-// The parameters are the format's own, in the manual's order: a struct for each format would be built to be taken apart.
 fn word_u(opcode: Field<7>, rd: Register, imm: u32) -> Result<u32, Refusal>
-    ensures { result ≡ word_u opcode.value rd.number imm }
+    ensures { Encodes (word_u opcode.value rd.number imm) result }
 {
     if imm % 4096 != 0 {
         return Err(Refusal::NoWord);
@@ -166,9 +161,8 @@ fn word_u(opcode: Field<7>, rd: Register, imm: u32) -> Result<u32, Refusal>
 }
 
 /// A word of the J format.
-// The format's own fields, as at word_u: a struct of them would be built to be taken apart.
 fn word_j(opcode: Field<7>, rd: Register, offset: i32) -> Result<u32, Refusal>
-    ensures { result ≡ word_j opcode.value rd.number offset }
+    ensures { Encodes (word_j opcode.value rd.number offset) result }
 {
     let n = Field::<21>::of_signed(offset)?.even()?;
     let fields = Fields {
@@ -183,7 +177,6 @@ fn word_j(opcode: Field<7>, rd: Register, offset: i32) -> Result<u32, Refusal>
 }
 
 /// A word of the I format.
-// The format's own fields, as at word_u: a struct of them would be built to be taken apart.
 fn word_i(
     opcode: Field<7>,
     funct3: Field<3>,
@@ -191,7 +184,7 @@ fn word_i(
     rs1: Register,
     imm: i32,
 ) -> Result<u32, Refusal>
-    ensures { result ≡ word_i opcode.value funct3.value rd.number rs1.number imm }
+    ensures { Encodes (word_i opcode.value funct3.value rd.number rs1.number imm) result }
 {
     let n = Field::<12>::of_signed(imm)?;
     let fields = Fields {
@@ -206,7 +199,6 @@ fn word_i(
 }
 
 /// A word of the S format.
-// The format's own fields, as at word_u: a struct of them would be built to be taken apart.
 fn word_s(
     opcode: Field<7>,
     funct3: Field<3>,
@@ -214,7 +206,7 @@ fn word_s(
     rs2: Register,
     offset: i32,
 ) -> Result<u32, Refusal>
-    ensures { result ≡ word_s opcode.value funct3.value rs1.number rs2.number offset }
+    ensures { Encodes (word_s opcode.value funct3.value rs1.number rs2.number offset) result }
 {
     let n = Field::<12>::of_signed(offset)?;
     let fields = Fields {
@@ -229,7 +221,6 @@ fn word_s(
 }
 
 /// A word of the B format.
-// The format's own fields, as at word_u: a struct of them would be built to be taken apart.
 fn word_b(
     opcode: Field<7>,
     funct3: Field<3>,
@@ -237,7 +228,7 @@ fn word_b(
     rs2: Register,
     offset: i32,
 ) -> Result<u32, Refusal>
-    ensures { result ≡ word_b opcode.value funct3.value rs1.number rs2.number offset }
+    ensures { Encodes (word_b opcode.value funct3.value rs1.number rs2.number offset) result }
 {
     let n = Field::<13>::of_signed(offset)?.even()?;
     let fields = Fields {
@@ -253,7 +244,7 @@ fn word_b(
 
 /// The word of a shift by an immediate.
 fn word_shift(op: ShiftOp, rd: Register, rs1: Register, amount: u8) -> Result<u32, Refusal>
-    ensures { result ≡ encoded (Instruction.Shift op rd rs1 amount) }
+    ensures { Encodes (encoded (Instruction.Shift op rd rs1 amount)) result }
 {
     if amount > 31 {
         return Err(Refusal::NoWord);
@@ -274,7 +265,7 @@ fn word_shift(op: ShiftOp, rd: Register, rs1: Register, amount: u8) -> Result<u3
 
 /// The word of an operation on two registers.
 fn word_r(op: RegisterOp, rd: Register, rs1: Register, rs2: Register) -> u32
-    ensures { Ok result ≡ encoded (Instruction.Register op rd rs1 rs2) }
+    ensures { encoded (Instruction.Register op rd rs1 rs2) ≡ Some result }
 {
     let codes = Codes::from(op);
     let fields = Fields {
@@ -289,7 +280,7 @@ fn word_r(op: RegisterOp, rd: Register, rs1: Register, rs2: Register) -> u32
 }
 
 fn word_for(instruction: Instruction) -> Result<u32, Refusal>
-    ensures { result ≡ encoded instruction }
+    ensures { Encodes (encoded instruction) result }
 {
     match instruction {
         Instruction::Lui { rd, imm } => word_u(LUI, rd, imm),
@@ -332,10 +323,10 @@ fn word_for(instruction: Instruction) -> Result<u32, Refusal>
 
 /// The word that holds an instruction; refused where a field cannot hold what the instruction has: an immediate out
 /// of its range, an odd offset, a shift by more than 31, low bits in an upper immediate.
-#[tactic(auto, using(crate::proofs::Round::restored))]
+#[tactic(auto, using(crate::proofs::Round::decodes_back))]
 pub fn encode(instruction: Instruction) -> Result<u32, Refusal>
-    ensures is { result ≡ encoded instruction }
-    ensures restored { Restored result instruction }
+    ensures is { Encodes (encoded instruction) result }
+    ensures restored { IfOk result (λ w. decoded w ≡ Some instruction) }
 {
     word_for(instruction)
 }

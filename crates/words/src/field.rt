@@ -1,6 +1,6 @@
 //! A field of a word.
-ghost use Rattle.std.specs.Prelude.{◌≡◌, ◌+◌, ◌-◌, ◌*◌, ◌/◌, ◌%◌, ◌^◌, ◌<◌, ◌≤◌, MatchResult};
-ghost use Rattle.base.specs.declared.refusal.Refusal.TheVariants.{NoWord};
+ghost use Rattle.std.specs.Prelude.{◌≡◌, ◌+◌, ◌-◌, ◌*◌, ◌/◌, ◌%◌, ◌^◌, ◌<◌, ◌≤◌};
+ghost use Rattle.base.specs.Refusals.{Says};
 ghost use Rattle.rv32i.specs.Signs.{signed};
 ghost use Rattle.words.specs.Immediates.{low_bits, IsInRange, branch_low};
 
@@ -62,7 +62,8 @@ impl<const BITS: u32> Field<BITS> {
     /// The field that has that signed number; refused where there is none.
     pub(crate) fn of_signed(number: i32) -> Result<Field<BITS>, Refusal>
         requires { (0 < BITS) × (BITS ≤ 30) }
-        ensures { MatchResult result (λ x. IsInRange (2 ^ (BITS - 1)) number × (x.value ≡ low_bits (2 ^ (BITS - 1)) number)) (λ why. (why ≡ NoWord) × ¬ IsInRange (2 ^ (BITS - 1)) number) }
+        ensures { Says (λ x. IsInRange (2 ^ (BITS - 1)) number × (x.value ≡ low_bits (2 ^ (BITS - 1)) number))
+            (λ why. (why ≡ 10) × ¬ IsInRange (2 ^ (BITS - 1)) number) result }
     {
         let field = Field::at(number.cast_unsigned(), 0);
         let half = field.half() as i32;
@@ -74,7 +75,8 @@ impl<const BITS: u32> Field<BITS> {
 
     /// Itself; refused where it is odd.
     pub(crate) fn even(self) -> Result<Field<BITS>, Refusal>
-        ensures { MatchResult result (λ x. (x.value ≡ self.entry.value) × (x.value % 2 ≡ 0)) (λ why. (why ≡ NoWord) × ¬ (self.entry.value % 2 ≡ 0)) }
+        ensures { Says (λ x. (x.value ≡ self.entry.value) × (x.value % 2 ≡ 0))
+            (λ why. (why ≡ 10) × ¬ (self.entry.value % 2 ≡ 0)) result }
     {
         if self.value % 2 == 0 {
             Ok(self)

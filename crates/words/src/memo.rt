@@ -1,5 +1,6 @@
 //! What words issue, remembered.
 ghost use Rattle.std.specs.Prelude.{◌≡◌};
+ghost use Rattle.rv32i.specs.Causes.{Gives};
 ghost use Rattle.words.specs.Issues.{issued};
 
 use crate::decoding::issue;
@@ -34,13 +35,14 @@ impl Model for Entry {
 
 /// What a word issues, laid out flat.
 fn flat(word: u32) -> Result<MicroOp, Cause>
-    ensures { result ≡ issued word }
+    ensures { Gives (issued word) result }
 {
     Ok(issue(word)?.into())
 }
 
 impl Entry {
     /// The word's.
+    #[tactic(auto, using(rv32i::proofs::Given::given))]
     fn new(word: u32) -> Entry
         ensures { result ≡ word }
     {
@@ -87,7 +89,7 @@ impl Memo {
     /// remembered there.
     #[inline]
     pub fn issue(&mut self, address: u32, word: u32) -> Result<MicroOp, Cause>
-        ensures { result ≡ issued word }
+        ensures { Gives (issued word) result }
     {
         let entry = &mut self.entries[address as usize / 4 % ENTRIES];
         if entry.word != word {

@@ -8,8 +8,9 @@ use Rattle.memory.specs.Flat.{flat_means}
 use Rattle.wait_states.specs.WaitStates.{wait_means}
 use Rattle.write_buffer.specs.WriteBuffer.{buffer_means}
 use Rattle.predictor.specs.Counting.{fresh, counted, stepped, number_of}
+use Rattle.predictor.specs.Tables.{taught}
 use Rattle.words.specs.Words.{decoded}
-use Rattle.worked.specs.Examples.{words, instructions, counts, counts_at, taken_at, longest, TableGiven}
+use Rattle.worked.specs.Examples.{words, instructions, counts, counts_of, taken, longest, TableGiven}
 
 -- a counter that is counted has the stepped value, and the counters stay as many
 stepped_at : (values : List ℕ) (k v : ℕ) → k < length values → get_or values k 0 ≡ v → get_or (counted values k true) k 0 ≡ stepped v true
@@ -18,16 +19,17 @@ stepped_at values k v h e = get_or-set_same values k (stepped (get_or values k 0
 still : (values : List ℕ) (k : ℕ) → k < length values → k < length (counted values k true)
 still values k h = rw length-set h
 
-pub counter_given : (address : ℕ) → counts_at address ≡ counts
-counter_given address =
+pub counter_given : (address target : ℕ) → counts_of (taken address target) ≡ counts
+counter_given address target =
+    let o = taken address target in
     let k = number_of address in
     let h : k < 256 = omega arith in
     let h0 : k < length fresh = rw length-replicate h in
     let e1 = stepped_at fresh k 1 h0 (get_or-replicate 256 k 1 0 h) in
     let h1 = still fresh k h0 in
-    let e2 = stepped_at (taken_at address fresh) k 2 h1 e1 in
-    let h2 = still (taken_at address fresh) k h1 in
-    let e3 = stepped_at (taken_at address (taken_at address fresh)) k 3 h2 e2 in
+    let e2 = stepped_at (taught fresh o) k 2 h1 e1 in
+    let h2 = still (taught fresh o) k h1 in
+    let e3 = stepped_at (taught (taught fresh o) o) k 3 h2 e2 in
     λ i. e1 i ∷ e2 i ∷ e3 i ∷ []
 
 pub words_given : map decoded words ≡ instructions

@@ -6,7 +6,9 @@ use Rattle.write_buffer.specs.WriteBuffer.{buffer_means}
 use Rattle.memory.specs.declared.flat.Flat.{Flat}
 use Rattle.wait_states.specs.declared.WaitStates.{WaitStates}
 use Rattle.write_buffer.specs.declared.WriteBuffer.{WriteBuffer}
-use Rattle.predictor.specs.Counting.{fresh, counted, value_at, number_of}
+use Rattle.base.specs.declared.branch.Outcome.{Outcome}
+use Rattle.predictor.specs.Counting.{fresh, value_at, number_of}
+use Rattle.predictor.specs.Tables.{taught}
 use Rattle.rv32i.specs.Registers.{register}
 use Rattle.words.specs.Words.{decoded}
 use Rattle.rv32i.specs.declared.instruction.Condition.TheVariants.{Ne}
@@ -29,7 +31,7 @@ instructions =
     Some (Jal (register 1) (pos 8)) ∷  -- jal x1,8
     None ∷ None ∷ None ∷ []
 
--- a counter of bimodal after one, two and three outcomes that were taken
+-- a branch's counter in a new Bimodal after one, two and three outcomes, all taken
 abbrev pub counts : List ℕ
 counts = 2 ∷ 3 ∷ 3 ∷ []
 
@@ -39,17 +41,18 @@ longest = 14
 
 -- ---- the definitions give it
 
--- the values of the counters after so many branches at an address were taken
-abbrev pub taken_at : ℕ → List ℕ → List ℕ
-taken_at address values = counted values (number_of address) true
+-- an outcome of a branch that was taken
+abbrev pub taken : ℕ → ℕ → Outcome
+taken address target = record { address = address; target = target; taken = true }
 
-abbrev pub counts_at : ℕ → List ℕ
-counts_at address =
-    value_at (taken_at address fresh) (number_of address) ∷
-    value_at (taken_at address (taken_at address fresh)) (number_of address) ∷
-    value_at (taken_at address (taken_at address (taken_at address fresh))) (number_of address) ∷ []
+-- the branch's counter after one, two and three times the same outcome, by what Bimodal's contracts say of its counters
+abbrev pub counts_of : Outcome → List ℕ
+counts_of o =
+    value_at (taught fresh o) (number_of o.address) ∷
+    value_at (taught (taught fresh o) o) (number_of o.address) ∷
+    value_at (taught (taught (taught fresh o) o) o) (number_of o.address) ∷ []
 
 pub record TableGiven : Type 0 where
   pub decodes : map decoded words ≡ instructions
-  pub counter : (address : ℕ) → counts_at address ≡ counts
+  pub counter : (address target : ℕ) → counts_of (taken address target) ≡ counts
   pub stack : (m : WriteBuffer (WaitStates Flat)) → m.below.states ≡ 2 → (buffer_means (wait_means flat_means)).view.longest m ≡ longest

@@ -3,10 +3,14 @@
 
 ghost use Rattle.std.specs.Prelude.{◌≡◌};
 ghost use Rattle.predictor.specs.Counting.{value_at, number_of};
-ghost use Rattle.worked.specs.Examples.{TableGiven, instructions, counts, longest, counts_at, taken_at};
+ghost use Rattle.predictor.specs.States.{counters_of};
+ghost use Rattle.predictor.specs.Tables.{taught};
+ghost use Rattle.worked.specs.Examples.{TableGiven, instructions, counts, longest, counts_of, taken};
 
+use base::branch::Outcome;
 use memory::{Flat, Memory};
-use predictor::counters::Counters;
+use predictor::Predictor;
+use predictor::bimodal::Bimodal;
 use rv32i::instruction::Instruction;
 use wait_states::WaitStates;
 use words::decoding::decode;
@@ -16,38 +20,48 @@ use write_buffer::WriteBuffer;
 pub struct Worked {
     /// What seven words hold; none is an illegal word.
     pub instructions: [Option<Instruction>; 7],
-    /// A counter of bimodal after one, two and three outcomes that were taken.
+    /// A branch's counter in a new `Bimodal` after one, two and three outcomes, all taken.
     pub counts: [u8; 3],
     /// The longest wait of a write buffer over two wait states over a flat memory.
     pub longest: u32,
 }
 
-/// A taken branch at an address: the value of its counter then.
-fn taken(counters: &mut Counters, address: u32) -> u8
-    ensures counter { result ≡ value_at (taken_at address counters.old.values) (number_of address) }
-    ensures after { counters.new.values ≡ taken_at address counters.old.values }
+/// An outcome of a branch that was taken.
+fn taken(address: u32, target: u32) -> Outcome
+    ensures { result ≡ taken address target }
 {
-    let number = Counters::number_of(address);
-    counters.count(number, true);
-    counters.get(number).value
+    Outcome {
+        address,
+        target,
+        taken: true,
+    }
 }
 
-/// The counter of the branch at an address, which is taken three times: its value after each.
-fn taken_thrice(address: u32) -> [u8; 3]
-    ensures { result ≡ counts_at address }
+/// The predictor learns an outcome: the value of the branch's counter then.
+fn learned(bimodal: &mut Bimodal, outcome: Outcome) -> u8
+    ensures counter { result ≡ value_at (taught (counters_of bimodal.old) outcome) (number_of outcome.address) }
+    ensures counters { counters_of bimodal.new ≡ taught (counters_of bimodal.old) outcome }
 {
-    let mut counters = Counters::new();
+    bimodal.update(outcome);
+    bimodal.counter(outcome.address).value
+}
+
+/// A new predictor learns three times that a branch was taken: the value of the branch's counter after each.
+fn taken_thrice(address: u32, target: u32) -> [u8; 3]
+    ensures { result ≡ counts_of (taken address target) }
+{
+    let mut bimodal = Bimodal::new();
     [
-        taken(&mut counters, address),
-        taken(&mut counters, address),
-        taken(&mut counters, address),
+        learned(&mut bimodal, taken(address, target)),
+        learned(&mut bimodal, taken(address, target)),
+        learned(&mut bimodal, taken(address, target)),
     ]
 }
 
-/// The worked examples, done by the code, for a branch at any address and a flat memory of any bytes: they come to the table,
-/// and so do the definitions.
+/// The worked examples, done by the code, for a branch at any address to any target and a flat memory of any bytes: they come to
+/// the table, and so do the definitions.
 #[tactic(auto, using(crate::proofs::Given::table_given))]
-pub fn worked_examples(address: u32, bytes: Vec<u8>) -> Worked
+pub fn worked_examples(address: u32, target: u32, bytes: Vec<u8>) -> Worked
     ensures given { TableGiven }
     ensures instructions { result.instructions ≡ instructions }
     ensures counts { result.counts ≡ counts }
@@ -64,7 +78,7 @@ pub fn worked_examples(address: u32, bytes: Vec<u8>) -> Worked
             decode(0x0200_9093),
             decode(0x0000_0000),
         ],
-        counts: taken_thrice(address),
+        counts: taken_thrice(address, target),
         longest: stack.longest(),
     }
 }

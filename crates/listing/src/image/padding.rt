@@ -14,13 +14,14 @@ fn padded_size(len: usize) -> usize
     ((len + 15) / 16 * 16).max(16)
 }
 
-/// An image with zeros behind it up to a multiple of 16, at least 16 bytes in all; refused above 65536 bytes.
+/// An image with zeros behind it up to a multiple of 16, at least 16 bytes in all; refused above 65536 bytes. Memory is asked for
+/// only where the vector has no room for the zeros.
 pub fn padded(mut image: Vec<u8>) -> Result<PaddedImage, Failure>
-    ensures { Padded image.items result }
+    ensures { Padded image result }
 {
     if image.len() > 65536 {
         return Err(Failure::Refused(Refusal::FlatSize));
     }
-    image.resize(padded_size(image.len()), 0)?;
+    image.resize_with(padded_size(image.len()), || 0)?;
     Ok(PaddedImage { bytes: image })
 }

@@ -1,6 +1,6 @@
 //! Clocks, one or many.
 ghost use Rattle.std.specs.Prelude.{◌≡◌};
-ghost use Rattle.pipeline.specs.Calls.{ClockedInto, Free, RanInto};
+ghost use Rattle.pipeline.specs.Calls.{ClockedInto, RanInto, refusal};
 ghost use Rattle.pipeline.specs.Logged.{logs, SameSlots, Tested};
 
 use crate::journal::Journal;
@@ -32,9 +32,10 @@ impl<P: Predictor, I: Memory, D: Memory> Machine<P, I, D> {
     }
 
     /// One clock. What it tells is added to the journal: the clock, and what retires in it. A clock that is refused alters
-    /// nothing.
+    /// nothing: neither the machine nor any slot of the journal.
     pub fn clock(&mut self, journal: &mut Journal) -> Result<(), Refusal>
-        ensures does { ClockedInto P.Predictor.table I.Memory.means D.Memory.means (logs journal.old) self.old result (logs journal.new) self.new }
+        ensures does { ClockedInto P.Predictor.table I.Memory.means D.Memory.means
+            (logs journal.old) self.old result (logs journal.new) self.new }
         ensures slots { SameSlots journal.old journal.new }
     {
         self.ready(journal)?;
@@ -44,8 +45,9 @@ impl<P: Predictor, I: Memory, D: Memory> Machine<P, I, D> {
 
     /// Up to `n` clocks in a row, of which nothing refuses the first.
     fn repeat(&mut self, n: u32, journal: &mut Journal) -> Run
-        requires { Free (logs journal.old) self.old }
-        ensures does { RanInto P.Predictor.table I.Memory.means D.Memory.means (logs journal.old) self.old n result (logs journal.new) self.new }
+        requires { refusal (logs journal.old) self.old ≡ 0 }
+        ensures does { RanInto P.Predictor.table I.Memory.means D.Memory.means
+            (logs journal.old) self.old n result (logs journal.new) self.new }
         ensures slots { SameSlots journal.old journal.new }
     {
         for made in 0..n {
@@ -60,9 +62,10 @@ impl<P: Predictor, I: Memory, D: Memory> Machine<P, I, D> {
     }
 
     /// Up to `n` clocks in a row: how many were made, and the refusal of the next where they are fewer. The first test is
-    /// made also where `n` is 0.
+    /// made also where `n` is 0, and where it says no, its refusal is the reason.
     pub fn run(&mut self, n: u32, journal: &mut Journal) -> Run
-        ensures does { RanInto P.Predictor.table I.Memory.means D.Memory.means (logs journal.old) self.old n result (logs journal.new) self.new }
+        ensures does { RanInto P.Predictor.table I.Memory.means D.Memory.means
+            (logs journal.old) self.old n result (logs journal.new) self.new }
         ensures slots { SameSlots journal.old journal.new }
     {
         match self.ready(journal) {

@@ -19,7 +19,8 @@ impl<P: Predictor, I: Memory, D: Memory> Machine<P, I, D> {
         Ok(HoldToken::new(self.serial))
     }
 
-    /// Lets the machine go, and spends the token; the token comes back where the machine is not held or it is another's.
+    /// Lets the machine go, and spends the token; the token comes back where the machine is not held or the token bears
+    /// another serial.
     pub fn release(&mut self, token: HoldToken) -> Result<(), Rejected>
         ensures { ReleaseCall self.old token result self.new }
     {

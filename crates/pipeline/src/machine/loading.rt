@@ -35,7 +35,8 @@ pub fn load<P: Predictor, I: Memory, D: Memory>(
     instructions: I,
     data: D,
 ) -> Machine<P, I, D>
-    ensures starts { Loaded (I.Memory.means.view.size instructions) serial start predictor instructions «data» result }
+    ensures starts { Loaded (I.Memory.means.view.size instructions)
+        serial start predictor instructions «data» result }
     ensures agrees { Agrees P.Predictor.table I.Memory.means D.Memory.means result }
 {
     let f = if is_within(instructions.size(), start) {

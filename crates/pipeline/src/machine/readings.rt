@@ -27,7 +27,7 @@ impl<P: Predictor, I: Memory, D: Memory> Machine<P, I, D> {
         self.held
     }
 
-    /// The value of a register; refused above 31.
+    /// The value of a register, 0 for x0; refused above 31.
     pub fn register(&self, number: u32) -> Result<u32, Refusal>
         ensures { RegisterRead self.now.core.registers number result }
     {

@@ -1,4 +1,4 @@
-use Rattle.std.proofs.Common.{◌≡◌, vec_items, string_bytes, ap, ◌∙◌, lit≤}
+use Rattle.std.proofs.Common.{◌≡◌, vec_items, string_bytes, refl, ap, ◌∙◌, lit≤}
 use Rattle.std.proofs.lemmas.Result.{IfOk-weaker}
 use Rattle.memory.specs.Flat.{flat_means}
 use Rattle.predictor.specs.Tables.{never}
@@ -11,7 +11,7 @@ pub returns : goal.returns
 returns c =
     let starts = c.load-machine.ensures.starts in
     let made = c.new-journal.ensures in
-    let whole = whole_run (λ _. never) flat_means flat_means 1000 c.new-journal.result c.run.new.journal c.load-machine.result c.run.new.self c.run.result (lit≤ tt) made.empty made.rooms c.run.ensures.does in
+    let whole = whole_run (λ _. never) flat_means flat_means 1000 _ _ c.new-journal.result c.run.new.journal c.load-machine.result c.run.new.self c.run.result (lit≤ tt) made.empty refl refl c.run.ensures.does in
     IfOk-weaker c.clock_table.result (λ t. string_bytes t ≡ clock_table c.records.result.now c.records-2.result.now c.stopped.result c.counts.result)
     (λ t. ClockPrinted (vec_items c.args.image.bytes) (string_bytes t))
     (λ t e. record {
@@ -26,6 +26,7 @@ returns c =
       loaded = starts;
       agrees = c.load-machine.ensures.agrees;
       history = whole.history;
+      put = whole.put;
       last = c.run.new.self;
       calls = whole.calls;
       finished = whole.finished starts.not_held starts.no_clocks;

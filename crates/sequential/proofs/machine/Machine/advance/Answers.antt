@@ -1,5 +1,6 @@
 use Rattle.std.proofs.Common.{◌≡◌, Ok, Err, refl, ap, ◌∙◌, rules}
 use Rattle.std.proofs.lemmas.Result.{err_from_is_err_and}
+use Rattle.rv32i.specs.Causes.{Gives}
 use Rattle.rv32i.specs.Effects.{destination, executed}
 use Rattle.rv32i.specs.Registers.{written}
 use Rattle.sequential.specs.Sequential.{first_operand, second_operand, retired}
@@ -40,7 +41,7 @@ returns-in_err-effect g c =
     let s = state_of bytes m in
     let i = c.in_ok-instruction.instruction in
     let p = err_from_is_err_and c.from_residual-in_err-effect.result c.from_residual-in_err-effect.ensures.1 in
-    let ran : Err c.in_err-effect.field-0.0 ≡ executed i m.address (first_operand s i) (second_operand s i) = search rules in
+    let ran : Gives (executed i m.address (first_operand s i) (second_operand s i)) (Err c.in_err-effect.field-0.0) = search rules in
     record {
       does = stops (world_of text bytes m) s _ _ _ (at_execute _ _ _ c.in_ok-word.ensures.word _ c.in_ok-instruction.ensures _ ran) (p.1 ∙ rw p.2) refl;
       world = same_world text bytes _ _ _ _ c.fetch.ensures.same refl;
@@ -56,7 +57,7 @@ returns-in_err-value g c =
     let i = c.in_ok-instruction.instruction in
     let e = c.in_ok-effect.effect in
     let p = err_from_is_err_and c.from_residual-in_err-value.result c.from_residual-in_err-value.ensures.1 in
-    let ran : Ok e ≡ executed i m.address (first_operand s i) (second_operand s i) = search rules in
+    let ran : Gives (executed i m.address (first_operand s i) (second_operand s i)) (Ok e) = search rules in
     let b : c.read-b.result ≡ second_operand s i = search rules in
     let came = rw (c.access.ensures, b) at c.in_err-value.ensures in
     let t = transfer_err bytes m.«data» c.transfer.new.data _ _ came.0 in
@@ -77,12 +78,12 @@ returns g c =
     let s = state_of bytes m in
     let i = c.in_ok-instruction.instruction in
     let e = c.in_ok-effect.effect in
-    let ran : Ok e ≡ executed i m.address (first_operand s i) (second_operand s i) = search rules in
+    let ran : Gives (executed i m.address (first_operand s i) (second_operand s i)) (Ok e) = search rules in
     let b : c.read-b.result ≡ second_operand s i = search rules in
     let came = rw (c.access.ensures, b) at c.in_ok-value.ensures in
-    let t = transfer_ok bytes m.«data» c.transfer.new.data _ _ came.0 in
     let kept : c.new.result ≡ retired m.address c.in_ok-word.word (destination i) c.in_ok-value.value = search rules in
     let wrote : c.write.new.self ≡ written m.registers (destination i) c.in_ok-value.value = search rules in
+    let t = transfer_ok bytes m.«data» c.transfer.new.data _ _ came.0 in
     record {
       does =
           retires (world_of text bytes m) s _ _ _

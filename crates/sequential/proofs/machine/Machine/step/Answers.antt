@@ -10,5 +10,9 @@ returns-in-Ok g c =
     let n = c.advance.new.self in
     let world = world_of g.I.Memory.means.view bytes m in
     let does : Stepped world (state_of bytes m) m.stopped (Ok c.in-Ok.retirement) (state_of bytes n) n.stopped = search rules in
-    let keeps = stepped_keeps world (state_of bytes m) (state_of bytes n) m.stopped n.stopped (Ok c.in-Ok.retirement) does in
-    record { does = does; world = search rules; aligned = keeps.aligned; zero = keeps.zero }
+    record {
+      does = does;
+      world = search rules;
+      for_good = search rules;
+      aligned = stepped_keeps world (state_of bytes m) (state_of bytes n) m.stopped n.stopped (Ok c.in-Ok.retirement) does;
+    }

@@ -65,7 +65,6 @@ pub fn run_to<P: Predictor, I: Memory, D: Memory, W: Watch>(
     ensures told { Watched W.Watch.hears
         machine.old.core.counts.clocks machine.new.core.counts.clocks watch.old watch.new }
 {
-    // The slots are the caller's own, so they stand beside the journal that borrows them.
     let mut retired_slots = [RetiredAt::EMPTY; SLOTS];
     let mut clock_slots = [ClockRecord::EMPTY; SLOTS];
     let mut clocks = machine.counts().clocks;

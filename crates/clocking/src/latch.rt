@@ -10,43 +10,43 @@ use sequential::record::Stop;
 #[derive(Clone, Copy)]
 pub struct Fetched {
     pub address: u32,
-    pub word: u32,
     pub issued: Result<MicroOp, Cause>,
+    pub word: u32,
     pub guess: u32,
 }
 
 /// Before execute: an instruction with its operands.
 #[derive(Clone, Copy)]
 pub struct Decoded {
-    pub address: u32,
     pub word: u32,
     pub instruction: MicroOp,
-    pub rd: Option<Register>,
+    pub address: u32,
     pub a: u32,
-    pub b: u32,
     pub guess: u32,
+    pub b: u32,
+    pub rd: Option<Register>,
 }
 
 /// Before data: an instruction with the result of its execution.
 #[derive(Clone, Copy)]
 pub struct Executed {
-    pub address: u32,
-    pub word: u32,
-    pub rd: Option<Register>,
-    pub access: Option<Access>,
     pub result: u32,
-    pub b: u32,
+    pub address: u32,
     pub next: u32,
+    pub word: u32,
+    pub b: u32,
+    pub access: Option<Access>,
     pub outcome: Option<Outcome>,
+    pub rd: Option<Register>,
 }
 
 /// Before write-back: an instruction with its value.
 #[derive(Clone, Copy)]
 pub struct Completed {
     pub address: u32,
+    pub value: u32,
     pub word: u32,
     pub rd: Option<Register>,
-    pub value: u32,
     pub outcome: Option<Outcome>,
 }
 

@@ -6,6 +6,7 @@ use clocking::latch::{Latch, Latches};
 use clocking::stage::Flow;
 
 /// How many instructions a latch holds.
+#[inline(always)]
 fn occupied<T: Copy>(latch: &Latch<T>) -> u32
     ensures is { result ≡ occupied latch.now }
     ensures bound { result ≤ 1 }
@@ -23,20 +24,22 @@ pub fn in_flight(latches: &Latches) -> u32
     occupied(&latches.d) + occupied(&latches.x) + occupied(&latches.m) + occupied(&latches.w)
 }
 
-/// What a rollback removes of a latch that holds so many.
-fn if_rolled(flow: Flow, n: u32) -> u32
-    ensures is { result ≡ if_rolled flow n }
-    ensures bound { result ≤ n }
+/// What a rollback removes of a latch.
+#[inline(always)]
+fn if_rolled<T: Copy>(flow: Flow, latch: &Latch<T>) -> u32
+    ensures is { result ≡ if_rolled flow (occupied latch.now) }
+    ensures bound { result ≤ 1 }
 {
     match flow {
-        Flow::RollsBack => n,
+        Flow::RollsBack => occupied(latch),
         Flow::Moves | Flow::Stays => 0,
     }
 }
 
 /// How many are removed: a rollback from data removes X, and any rollback D.
+#[inline(always)]
 pub fn dropped(latches: &Latches, data: Flow, execute: Flow) -> u32
     ensures { result ≡ dropped latches.now «data» execute }
 {
-    if_rolled(data, occupied(&latches.x)) + if_rolled(execute, occupied(&latches.d))
+    if_rolled(data, &latches.x) + if_rolled(execute, &latches.d)
 }

@@ -111,7 +111,7 @@ impl Instruction {
 }
 
 /// What is computed of two operands; a shift goes by the low five bits of the second.
-#[inline]
+#[inline(always)]
 pub fn arithmetic(op: RegisterOp, a: u32, b: u32) -> u32
     ensures { result ≡ arithmetic op a b }
 {
@@ -160,7 +160,7 @@ impl From<ShiftOp> for RegisterOp {
 
 impl Condition {
     /// Whether a branch with these operands is taken.
-    #[inline]
+    #[inline(always)]
     pub fn holds(self, a: u32, b: u32) -> bool
         ensures { result ≡ holds self a b }
     {
@@ -176,7 +176,7 @@ impl Condition {
 }
 
 /// To the next instruction, with that result.
-#[inline]
+#[inline(always)]
 pub(crate) fn goes_on(address: u32, res: u32) -> Effect
     ensures { result ≡ goes_on address res }
 {
@@ -188,7 +188,7 @@ pub(crate) fn goes_on(address: u32, res: u32) -> Effect
 }
 
 /// To a target, unless that is no multiple of 4.
-#[inline]
+#[inline(always)]
 pub(crate) fn jumps(res: u32, target: u32, outcome: Option<Outcome>) -> Result<Effect, Cause>
     ensures { Gives (jumps res target outcome) result }
 {
@@ -204,7 +204,7 @@ pub(crate) fn jumps(res: u32, target: u32, outcome: Option<Outcome>) -> Result<E
 }
 
 /// To a branch's target where it is taken, else to the next instruction.
-#[inline]
+#[inline(always)]
 pub(crate) fn branches(address: u32, target: u32, taken: bool) -> Result<Effect, Cause>
     ensures { Gives (branches address target taken) result }
 {
@@ -225,6 +225,7 @@ pub(crate) fn branches(address: u32, target: u32, taken: bool) -> Result<Effect,
 }
 
 /// The bytes of its word that a store at an address sets.
+#[inline(always)]
 fn lanes_of(kind: StoreKind, address: u32) -> Lanes
     ensures { result ≡ lanes_of kind address }
 {
@@ -253,6 +254,7 @@ fn lanes_of(kind: StoreKind, address: u32) -> Lanes
 
 impl Access {
     /// Its width in bytes.
+    #[inline(always)]
     fn width(self) -> u32
         ensures is { result ≡ width self }
         ensures bound { 0 < result }
@@ -267,6 +269,7 @@ impl Access {
     }
 
     /// The cause where its address is not aligned to its width.
+    #[inline(always)]
     fn misaligned(self) -> Cause
         ensures { result ≡ misaligned self }
     {
@@ -277,6 +280,7 @@ impl Access {
     }
 
     /// The cause where its address is outside the data memory.
+    #[inline(always)]
     fn outside(self) -> Cause
         ensures { result ≡ outside self }
     {
@@ -289,6 +293,7 @@ impl Access {
 
 /// What an instruction asks of a data memory of that size, or why it may not; `address` is the result of its execution
 /// and `b` its second operand.
+#[inline(always)]
 #[tactic(auto, unfolding(crate::specs::Effects::request))]
 pub fn request(
     size: u32,
@@ -320,6 +325,7 @@ pub fn request(
 }
 
 /// What a load makes of a word whose lowest byte is the first that it reads.
+#[inline(always)]
 fn extract(kind: LoadKind, bytes: u32) -> u32
     ensures { result ≡ extracted kind bytes }
 {
@@ -333,6 +339,7 @@ fn extract(kind: LoadKind, bytes: u32) -> u32
 }
 
 /// What a load makes of the word that it is answered; all else keeps its result.
+#[inline(always)]
 #[tactic(auto, unfolding(crate::specs::Effects::loaded))]
 pub fn loaded(access: Option<Access>, res: u32, word: u32) -> u32
     ensures { result ≡ loaded access res word }

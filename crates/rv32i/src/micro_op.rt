@@ -244,7 +244,7 @@ impl From<Instruction> for MicroOp {
 
 impl MicroOp {
     /// The first register that it reads; none for one that reads none, and for x0.
-    #[inline]
+    #[inline(always)]
     pub fn first_source(self) -> Option<Register>
         ensures { result ≡ first_source self }
     {
@@ -252,7 +252,7 @@ impl MicroOp {
     }
 
     /// The second register that it reads: only branches, stores and register arithmetic have one.
-    #[inline]
+    #[inline(always)]
     pub fn second_source(self) -> Option<Register>
         ensures { result ≡ second_source self }
     {
@@ -260,7 +260,7 @@ impl MicroOp {
     }
 
     /// The register that it writes, never x0.
-    #[inline]
+    #[inline(always)]
     pub fn destination(self) -> Option<Register>
         ensures { result ≡ destination self }
     {
@@ -268,7 +268,7 @@ impl MicroOp {
     }
 
     /// How it uses the data memory, if it does.
-    #[inline]
+    #[inline(always)]
     pub fn access(self) -> Option<Access>
         ensures { result ≡ access self }
     {
@@ -276,7 +276,7 @@ impl MicroOp {
     }
 
     /// Where the instruction at an address may lead.
-    #[inline]
+    #[inline(always)]
     #[tactic(auto, using(crate::proofs::Flat::bits_kept), unfolding(crate::specs::Targets::target_of))]
     pub fn target(self, address: u32) -> Target
         ensures { result ≡ target_of self address }

@@ -73,6 +73,7 @@ impl Registers {
     }
 
     /// The value of a register, or 0 where there is none to read.
+    #[inline(always)]
     pub fn read(&self, source: Option<Register>) -> u32
         ensures { result ≡ operand self.now source }
     {
@@ -88,6 +89,7 @@ impl Registers {
     }
 
     /// Sets a register, if there is one to set; x0 stays 0.
+    #[inline(always)]
     pub fn write(&mut self, destination: Option<Register>, value: u32)
         ensures { self.new ≡ written self.old destination value }
     {

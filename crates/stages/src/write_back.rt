@@ -8,6 +8,7 @@ use rv32i::registers::Registers;
 use sequential::record::{Retired, Retirement, Stop};
 
 /// Where and why the machine stops, if W is faulting.
+#[inline(always)]
 pub fn stop_of(w: &Latch<Completed>) -> Option<Stop>
     ensures { result ≡ stop_of w.now }
 {
@@ -18,6 +19,7 @@ pub fn stop_of(w: &Latch<Completed>) -> Option<Stop>
 }
 
 /// What retires, if W is full and not faulting.
+#[inline(always)]
 pub fn retirement_of(w: &Latch<Completed>) -> Option<Retirement>
     ensures { result ≡ retirement_of w.now }
 {
@@ -31,6 +33,7 @@ pub fn retirement_of(w: &Latch<Completed>) -> Option<Retirement>
 }
 
 /// What became of the branch that retires, if it is one.
+#[inline(always)]
 pub fn outcome_of(w: &Latch<Completed>) -> Option<Outcome>
     ensures { result ≡ outcome_of (retirement_of w.now) }
 {
@@ -41,6 +44,7 @@ pub fn outcome_of(w: &Latch<Completed>) -> Option<Outcome>
 }
 
 /// Writes what retires to the register file.
+#[inline(always)]
 pub fn write_back(registers: &mut Registers, w: &Latch<Completed>)
     ensures { registers.new ≡ written_back registers.old w.now }
 {

@@ -79,7 +79,7 @@ impl Memo {
 
     /// What the word at an address issues, or why it issues none; taken apart only where it is not the word that was
     /// remembered there.
-    #[inline]
+    #[inline(always)]
     pub fn issue(&mut self, address: u32, word: u32) -> Result<MicroOp, Cause>
         ensures { result ≡ issued word }
     {

@@ -22,12 +22,22 @@ fn main(rt: HostRuntime) -> anyhow::Result<()> {
     let run = machine.run(16, &mut journal);
 
     let counts = machine.counts();
-    println!(rt; "made {} clocks: {} fetched, {} retired, {} dropped", run.made, counts.fetched, counts.retired, counts.dropped)?;
+    println!(rt;
+        "made {} clocks: {} fetched, {} retired, {} dropped",
+        run.made, counts.fetched, counts.retired, counts.dropped
+    )?;
     for record in journal.retirements.records() {
-        println!(rt; "clock {}: {:x} retired", record.clock, record.retired.address)?;
+        println!(rt;
+            "clock {}: {:x} retired",
+            record.clock, record.retired.address
+        )?;
     }
     if let Some(stop) = machine.stopped() {
-        println!(rt; "stopped at {:x} with cause {}", stop.address, stop.cause.number())?;
+        println!(rt;
+            "stopped at {:x} with cause {}",
+            stop.address,
+            stop.cause.number()
+        )?;
     }
     Ok(())
 }

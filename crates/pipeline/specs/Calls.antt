@@ -1,5 +1,5 @@
 -- The relation of each call between the machine before and after it, by the number of its answer. Assumes nothing.
-use Rattle.std.specs.Prelude.{◌≡◌, ℕ, zero, ◌+◌, ◌<◌, Bool, true, false, cond, if◌then◌else◌, ◌==◌, ◌&&◌, ◌||◌, ◌⊎◌, List, [], ◌∷◌, ◌++◌, length, drop, replicate, is_some, Some, None, Option, Result, ◌≢◌, nat_le}
+use Rattle.std.specs.Prelude.{◌≡◌, ℕ, zero, ◌+◌, ◌<◌, Bool, true, false, if◌then◌else◌, ◌==◌, ◌&&◌, ◌||◌, ◌⊎◌, List, [], ◌∷◌, ◌++◌, length, drop, replicate, is_some, Some, None, Option, Result, ◌≢◌, nat_le}
 use Rattle.base.specs.Bytes.{within}
 use Rattle.base.specs.Refusals.{number, Answers, Says, reason}
 use Rattle.base.specs.declared.refusal.Refusal.{Refusal}
@@ -28,19 +28,26 @@ abbrev pub load_fits : ℕ → ℕ → ℕ → Bool
 load_fits serial size start = nat_le serial 65535 && start_fits size start
 
 -- a machine that has just been loaded: a bad serial or start counts as 0
-pub record Loaded {P I D : Type 0} (size serial start : ℕ) (p : P) (i : I) (d : D) (m : Machine P I D) : Type 0 where
-  pub serial_so : m.serial ≡ cond (nat_le serial 65535) serial 0
+pub record Loaded {P I D : Type 0}
+    (size given start : ℕ) (p : P) (i : I) (d : D) (m : Machine P I D) : Type 0 where
+  pub serial : m.serial ≡ (if nat_le given 65535 then given else 0)
   pub not_held : m.held ≡ false
-  pub latches_so : m.core.latches ≡ record { f = cond (start_fits size start) start 0; d = Empty; x = Empty; m = Empty; w = Empty }
-  pub registers_so : m.core.registers ≡ replicate 32 0
+  pub latches : m.core.latches ≡ record {
+    f = if start_fits size start then start else 0;
+    d = Empty;
+    x = Empty;
+    m = Empty;
+    w = Empty;
+  }
+  pub registers : m.core.registers ≡ replicate 32 0
   pub not_stopped : m.core.stopped ≡ None
   pub no_clocks : m.core.counts.clocks ≡ 0
   pub none_fetched : m.core.counts.fetched ≡ 0
   pub none_retired : m.core.counts.retired ≡ 0
   pub none_dropped : m.core.counts.dropped ≡ 0
-  pub predictor_so : m.core.predictor ≡ p
-  pub instructions_so : m.core.instructions ≡ i
-  pub data_so : m.core.«data» ≡ d
+  pub predictor : m.core.predictor ≡ p
+  pub instructions : m.core.instructions ≡ i
+  pub «data» : m.core.«data» ≡ d
 
 -- ---- the logs that clocks go to
 

@@ -36,8 +36,3 @@ given (Ok x) (Ok y) h = ap Ok h
 given (Ok x) (Err c) h = absurd h
 given (Err c) (Ok y) h = absurd h
 given (Err c) (Err b) h = ap Err (same_cause b c h)
-
--- and back
-pub gives : {A : Type 0} (d r : Result A Cause) → r ≡ d → Gives d r
-gives (Ok x) r e = rw e refl
-gives (Err c) r e = rw e refl

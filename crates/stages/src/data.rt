@@ -68,11 +68,7 @@ fn after_write(e: &Executed, answer: Result<(), Unserved>, w: &mut Latch<Complet
 /// passes the clock idle.
 #[inline(always)]
 #[tactic(auto, using(crate::proofs::Asking::data_idle, crate::proofs::Asking::data_refused, crate::proofs::Asking::data_free, crate::proofs::Asking::data_asked))]
-pub fn data_stage<D: Memory>(
-    data: &mut D,
-    m: &Latch<Executed>,
-    w: &mut Latch<Completed>,
-) -> Flow
+pub fn data_stage<D: Memory>(data: &mut D, m: &Latch<Executed>, w: &mut Latch<Completed>) -> Flow
     ensures { DataDone D.Memory.means m.now «data».old «data».new w.new result }
 {
     match m {
@@ -100,11 +96,15 @@ pub fn data_stage<D: Memory>(
                 complete(e, e.result, w)
             }
             Ok(Some(Request::Read { address })) => after_read(e, data.read(address), w),
-            Ok(Some(Request::Write {
-                address,
-                word,
-                lanes,
-            })) => after_write(e, data.write(address, word, lanes), w),
+            Ok(
+                Some(
+                    Request::Write {
+                        address,
+                        word,
+                        lanes,
+                    },
+                ),
+            ) => after_write(e, data.write(address, word, lanes), w),
         },
     }
 }

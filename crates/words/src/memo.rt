@@ -56,8 +56,8 @@ impl Entry {
 /// How many words a memo holds.
 const ENTRIES: usize = 1024;
 
-/// What the words that were fetched last issue, each at a place that its address tells. It changes no answer, only the
-/// time until it is there.
+/// What the words that were fetched last issue: 1024 entries, a word's told by its address over 4, so that it forgets a
+/// word where another comes from an address 4096 above or below. It changes no answer, only the time until it is there.
 #[derive(Drop)]
 pub struct Memo {
     entries: [Entry; ENTRIES],

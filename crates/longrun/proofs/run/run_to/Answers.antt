@@ -39,8 +39,8 @@ turn g c =
     let events = clocks_events table text words _ m c.stretch.result.made s.events p s.ran.0 in
     let whole : is_stopped p ≡ false → p.core.counts.clocks < c.args.limit → c.stretch.result.made < c.min-n.result → ⊥ =
     λ go under short.
-        let room = room_after c.loop-clocks.retired_slots c.loop-clocks.clock_slots s.events c.min-n.result (omega arith) (omega arith) (omega arith) in
-        true≢false (sym (stopped_short table text words _ m c.min-n.result c.stretch.result s.events _ p s.ran held short room (omega arith)) ∙ go) in
+    let room = room_after c.loop-clocks.retired_slots c.loop-clocks.clock_slots s.events c.min-n.result (omega arith) (omega arith) (omega arith) in
+    true≢false (sym (stopped_short table text words _ m c.min-n.result c.stretch.result s.events _ p s.ran held short room (omega arith)) ∙ go) in
     record {
       counted = clocks;
       further = omega arith;

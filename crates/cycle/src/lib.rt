@@ -130,6 +130,7 @@ fn advance<P: Predictor, I: Memory, D: Memory>(core: &mut Core<P, I, D>) -> Even
 
 /// One clock: what it does to the core, and what it tells. A core that has stopped or has made all its clocks stays as it
 /// is, and tells nothing.
+#[inline(always)]
 pub fn checked_cycle<P: Predictor, I: Memory, D: Memory>(core: &mut Core<P, I, D>) -> Option<Event>
     ensures cycles { Cycles P.Predictor.table I.Memory.means D.Memory.means core.old result core.new }
     ensures laws { IfSome result (λ e.

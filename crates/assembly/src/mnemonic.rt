@@ -5,7 +5,6 @@ ghost use Rattle.assembly.specs.Texts.{condition_name, load_name, store_name, im
 use rv32i::instruction::{Condition, ImmediateOp, LoadKind, RegisterOp, ShiftOp, StoreKind};
 
 /// A kind of operation that has names in assembly.
-// No Display: these types are of another crate.
 pub(crate) trait Mnemonic {
     ghost name: { Self → List ℕ };
 

@@ -11,7 +11,6 @@ use wait_states::WaitStates;
 use write_buffer::WriteBuffer;
 
 /// A memory with no layer, with wait states or with a write buffer over it.
-// An enum, and no `dyn Memory`: a function may not make a `dyn` and hand it out; memories and predictors are not compared.
 #[derive(Drop)]
 pub enum Layer<M: Memory> {
     Plain(M),

@@ -9,8 +9,6 @@ use std::alloc::{AllocFailed, Global};
 
 /// A memory where it stands, or another on the heap: a stack has too many fields for two of them to stand in one machine, but a
 /// flat memory is asked without a way round where it is not a part of one.
-// A type of its own: an impl for Box in `memory` would put the heap under every memory. An enum, and no `dyn Memory`: a function
-// may not make a `dyn` and hand it out; memories and predictors are not compared.
 #[derive(Drop)]
 pub enum Placed<N: Memory, M: Memory> {
     Here(N),

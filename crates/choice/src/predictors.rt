@@ -12,7 +12,6 @@ use predictor::tournament::Tournament;
 use setup::choice::{PredictorChoice, SimpleChoice};
 
 /// A predictor that stands alone. The kinds are parameters, so that a method is proved from what any predictor promises; a run has those that stand as defaults.
-// An enum, and no `dyn Predictor`: a function may not make a `dyn` and hand it out; memories and predictors are not compared.
 #[derive(Drop)]
 pub enum Simple<N = Never, W = Backward, C = Bimodal, G = Gshare> {
     Never(N),
@@ -23,7 +22,6 @@ pub enum Simple<N = Never, W = Backward, C = Bimodal, G = Gshare> {
 
 impl Simple {
     /// The fresh predictor of that name.
-    // `new` and no From: the choice is only its name.
     pub fn new(choice: SimpleChoice) -> Simple
         ensures { simple_table result ≡ simple_fresh choice }
     {
@@ -59,7 +57,6 @@ impl<N: Predictor, W: Predictor, C: Predictor, G: Predictor> Predictor for Simpl
 }
 
 /// A predictor that stands alone, or a tournament over two of them; its kinds are parameters for the same reason.
-// An enum, and no `dyn Predictor`, for the reason given at Simple.
 #[derive(Drop)]
 pub enum Chosen<S = Simple, T = Tournament<Simple, Simple>> {
     Simple(S),
@@ -68,7 +65,6 @@ pub enum Chosen<S = Simple, T = Tournament<Simple, Simple>> {
 
 impl Chosen {
     /// The fresh predictor of that name.
-    // `new` and no From: the choice is only its name.
     pub fn new(choice: PredictorChoice) -> Chosen
         ensures { chosen_table result ≡ chosen_fresh choice }
     {

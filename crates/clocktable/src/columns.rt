@@ -11,7 +11,6 @@ use pipeline::machine::Totals;
 use std::fmt;
 
 /// A letter, or nothing.
-// As setup's optional layer, which stands in a crate of its own.
 #[derive(Clone, Copy)]
 struct Letter(Option<char>);
 

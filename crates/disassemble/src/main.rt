@@ -6,7 +6,6 @@ use std::io;
 
 mod lines;
 
-// As in replay: these lines are the program.
 fn main(rt: HostRuntime) -> io::Result<()> {
     let text = io::read_to_string(rt.alloc(), rt.stdin())?;
     let output = disassemble_all(rt.alloc(), text.as_str())?;

@@ -8,7 +8,6 @@ use std::alloc::{AllocError, Global};
 pub fn printed(heap: Global, answer: Result<String, Failure>) -> Result<String, AllocError>
     ensures { PrintedOf answer result }
 {
-    // a match: one error becomes a text, the other another error
     match answer {
         Ok(text) => Ok(text),
         Err(Failure::Refused(why)) => format!(in heap; "{why}\n"),

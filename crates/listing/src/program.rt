@@ -12,7 +12,6 @@ use sequential::record::Retired;
 use std::alloc::{AllocError, Global};
 
 /// The most instructions that a run retires.
-// The limit of clocks that clocklog has is another.
 const LIMIT: usize = 1000;
 
 /// How many zero bytes of data a program has.

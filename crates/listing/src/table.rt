@@ -6,7 +6,6 @@ use std::alloc::AllocError;
 use std::fmt::Write;
 
 /// How a record is shown in a line of a table.
-// A trait and no closure: of a closure `write_table` would have to require what it writes.
 pub trait Columns {
     type Record;
 

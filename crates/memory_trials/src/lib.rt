@@ -17,7 +17,6 @@ mod tests {
     use wait_states::WaitStates;
     use write_buffer::WriteBuffer;
 
-    // A list of steps reads as the trial does; closures would hide the words and the waits.
     #[derive(Clone, Copy)]
     enum Step {
         // A read of the first, repeated, gives the second after so many waits.

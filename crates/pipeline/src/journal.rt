@@ -35,7 +35,6 @@ impl<'a> Journal<'a> {
     }
 
     /// Adds what a clock tells, for which there is room.
-    // That the slots stay the same speaks of before and after, and so stands in no type.
     fn record(&mut self, event: Event)
         requires { is_full (logs self.old) ≡ false }
         ensures adds { logs self.new ≡ logged (logs self.old) (event ∷ []) }

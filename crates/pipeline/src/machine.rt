@@ -39,14 +39,12 @@ pub struct Run {
 /// How many clocks a machine has made since it was loaded, and what became of the instructions that it fetched: so many
 /// retired, were removed by rollbacks or stand in latches, and `stopped` is 1 once it has stopped, else 0.
 #[derive(Clone, Copy, PartialEq, Eq, Debug)]
-// What is read of the counts, with what stands in latches and whether the machine has stopped.
 pub struct Totals {
     pub clocks: u32,
     pub fetched: u32,
     pub retired: u32,
     pub dropped: u32,
     pub in_flight: u32,
-    // a number, since it is a part of the balance of what was fetched
     pub stopped: u32,
 }
 

@@ -52,7 +52,6 @@ fn note_difference(
 }
 
 /// What the machines make of an image: the account of the sequential machine, and those of the pipelines that differ from it.
-// No Display: this is no print of an image, but what comes of running it.
 pub fn replay(heap: Global, image: &Image) -> Result<String, AllocError> {
     let mut text = format!(in heap; "image {}\n", image.name)?;
     let expected = sequential(heap, image)?;

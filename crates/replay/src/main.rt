@@ -8,7 +8,6 @@ mod account;
 mod images;
 mod runner;
 
-// As in disassemble: these lines are the program.
 fn main(rt: HostRuntime) -> io::Result<()> {
     let text = io::read_to_string(rt.alloc(), rt.stdin())?;
     let output = replay_all(rt.alloc(), text.as_str())?;

@@ -32,10 +32,8 @@ pub trait Runner {
     fn data(&self, address: u32) -> Result<u8, Refusal>;
 }
 
-// Two machines, whose readings have the same names.
 impl<I: Memory, D: Memory> Runner for sequential::machine::Machine<I, D> {
     fn run_on(&mut self, account: &mut Account) -> Result<(), AllocError> {
-        // The slots are the caller's own, so they stand beside the log that borrows them.
         let mut slots = [Retired::EMPTY; ROOM];
         let mut log = Log::new(&mut slots);
         self.run(&mut log);
@@ -60,7 +58,6 @@ impl<I: Memory, D: Memory> Runner for sequential::machine::Machine<I, D> {
 
 impl<P: Predictor, I: Memory, D: Memory> Runner for pipeline::machine::Machine<P, I, D> {
     fn run_on(&mut self, account: &mut Account) -> Result<(), AllocError> {
-        // The slots are the caller's own, so they stand beside the journal that borrows them.
         let mut retired_slots = [RetiredAt::EMPTY; ROOM];
         let mut clock_slots = [ClockRecord::EMPTY; ROOM];
         let mut journal = Journal::new(&mut retired_slots, &mut clock_slots);

@@ -111,7 +111,7 @@ module _ {P I D : Type 0} (table : Table P) (instructions : Meaning I) (words : 
       }
 
   module _ (s : Setup) (w : Longest) (first last : Machine P I D) where
-    -- in a few slots
+    -- with no log
     pub unlogged_shown : (g k : Gaps) (o : Outcomes) (text : List ℕ) → s.log ≡ false → g ≡ none_yet → RanTo table instructions words s.clocks first g last k → o ≡ outcomes_of last k
         → text ≡ report_text s w o → Shown table instructions words s w first text
     unlogged_shown g k o text unasked fresh ran oe te =

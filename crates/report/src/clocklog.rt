@@ -13,16 +13,13 @@ use predictor::never::Never;
 use std::alloc::{AllocError, Global};
 
 /// The most clocks that a run makes.
-// The limit of instructions that seqlog has is another.
 const LIMIT: usize = 1000;
 
 /// Clocks an image through the pipeline, from address 0, and prints what retired, the clocks and the counts.
-// As seqlog's in listing, by another machine.
 fn print_of(heap: Global, image: PaddedImage) -> Result<String, AllocError>
     ensures { IfOk result (λ t. ClockPrinted image.bytes.items (string_bytes t)) }
 {
     let mut machine = load(0, 0, Never, image.into_memory(), data_memory(heap)?);
-    // The slots are the caller's own, so they stand beside the journal that borrows them.
     let mut retired_slots = [RetiredAt::EMPTY; LIMIT];
     let mut clock_slots = [ClockRecord::EMPTY; LIMIT];
     let mut journal = Journal::new(&mut retired_slots, &mut clock_slots);

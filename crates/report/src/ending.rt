@@ -40,7 +40,6 @@ fn end_with(text: String, stream: Stream, status: u8) -> Ending
 pub fn run_ending(heap: Global, answer: Result<String, Failure>) -> Result<Ending, AllocError>
     ensures { RunEnding answer result }
 {
-    // a match: one error becomes a text, the other another error
     match answer {
         Ok(text) => Ok(end_with(text, Stream::Output, 0)),
         Err(Failure::Refused(why)) => {

@@ -35,7 +35,6 @@ pub struct Outcomes {
 }
 
 /// The predictor and the two memories, with the longest waits that they state.
-// The set-up is what was asked for and the waits what its memories state: no type has both.
 #[derive(Clone, Copy)]
 struct SetupLines(Setup, Longest);
 

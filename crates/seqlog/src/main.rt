@@ -6,7 +6,6 @@ use listing::program::sequence_of;
 use std::io;
 use std::io::Read;
 
-// What it shares with clocklog stands in `listing`; these lines are the program.
 fn main(rt: HostRuntime) -> io::Result<()> {
     let mut image = Vec::new(rt.alloc());
     rt.stdin().read_to_end(&mut image)?;

@@ -47,7 +47,6 @@ impl Retired {
             address,
             word,
             rd,
-            // a match: both cases are the rule's, and `map_or` would be no plainer
             value: match rd {
                 Some(_) => value,
                 None => 0,

@@ -44,7 +44,6 @@ pub(crate) fn register_at(word: u32, low: u32) -> Register
 }
 
 /// The I immediate: bits 31 to 20.
-// Each format has its own, of the bits that the manual gives it.
 pub(crate) fn immediate_i(word: u32) -> i32
     ensures { result ≡ signed 2048 (twelve (rs2_of word) (funct7_of word)) }
 {

@@ -16,7 +16,6 @@ use words::memo::Memo;
 
 /// Whether a machine can be loaded so; refused where the serial is above 65535, or the start no multiple of 4 or outside the
 /// instruction memory.
-// Each memory and the machine have a check of what they alone know.
 pub fn check<I: Memory>(serial: u32, start: u32, instructions: &I) -> Result<(), Refusal>
     ensures { Checked (load_fits serial (I.Memory.means.view.size instructions.now) start) 3 result }
 {

@@ -30,8 +30,7 @@ fn outcomes_of<P: Predictor, I: Memory, D: Memory>(
     }
 }
 
-/// Runs the machine up to the limit of the set-up, in a few log slots, and reports.
-// The three functions here have one contract, since the third calls one of the others; the set-up stays the caller's.
+/// Runs the machine up to the limit of the set-up, with no log, and reports.
 fn unlogged<P: Predictor, I: Memory, D: Memory, W: Watch>(
     heap: Global,
     setup: &Setup,
@@ -60,7 +59,6 @@ fn logged<P: Predictor, I: Memory, D: Memory>(
     requires { setup.now.log ≡ true }
     ensures { IfOk result (λ t. Shown P.Predictor.table I.Memory.means D.Memory.means setup.now assembly.old.longest assembly.old.machine (string_bytes t)) }
 {
-    // The slots are the caller's own, so they stand beside the journal that borrows them.
     let mut retired_slots = vec![in heap; RetiredAt::EMPTY; setup.clocks as usize]?;
     let mut clock_slots = vec![in heap; ClockRecord::EMPTY; setup.clocks as usize]?;
     let mut journal = Journal::new(retired_slots.as_mut_slice(), clock_slots.as_mut_slice());

@@ -3,10 +3,9 @@ use Rattle.std.specs.Prelude.{◌≡◌, ℕ, ◌≤◌, true, ◌⊎◌, List}
 use Rattle.memory.specs.Meaning.{Meaning}
 use Rattle.clocking.specs.Ports.{Table}
 use Rattle.clocking.specs.declared.state.Event.{Event}
-use Rattle.pipeline.specs.Calls.{Logs, logged, retired_entries, is_stopped, Ran}
+use Rattle.pipeline.specs.Calls.{retired_entries, is_stopped}
 use Rattle.pipeline.specs.Theorem.{Entries, Calls}
 use Rattle.pipeline.specs.declared.machine.Machine.{Machine}
-use Rattle.pipeline.specs.declared.machine.Run.{Run}
 use Rattle.longrun.specs.Gaps.{gaps_after}
 use Rattle.longrun.specs.declared.gaps.Gaps.{Gaps}
 
@@ -17,12 +16,6 @@ module _ {P I D : Type 0} (table : Table P) (instructions : Meaning I) (words : 
     pub put : Entries
     pub calls : Calls table instructions words m history put n
     pub gaps_so : k ≡ gaps_after g (retired_entries history)
-
-  -- a run of at most that many clocks from m and the gaps g, into those logs, comes to n and the gaps k
-  pub record Stretched (l : Logs) (m : Machine P I D) (count : ℕ) (g : Gaps) (r : Run) (n : Machine P I D) (k : Gaps) : Type 0 where
-    pub events : List Event
-    pub ran : Ran table instructions words l m count r events (logged l events) n
-    pub gaps_so : k ≡ gaps_after g (retired_entries events)
 
   -- the clocks of n have reached the limit and not passed it, if those of m had not, or n is held or has stopped
   pub record RanTo (limit : ℕ) (m : Machine P I D) (g : Gaps) (n : Machine P I D) (k : Gaps) : Type 0 where

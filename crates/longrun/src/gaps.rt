@@ -1,7 +1,10 @@
 //! Gaps between retirements.
-ghost use Rattle.std.specs.Prelude.{◌≡◌};
+ghost use Rattle.std.specs.Prelude.{◌≡◌, false, [], ◌∷◌};
+ghost use Rattle.pipeline.specs.Calls.{retired_entries};
 ghost use Rattle.longrun.specs.Gaps.{none_yet, gap_to, gaps_after};
 
+use clocking::state::Event;
+use pipeline::listener::Listener;
 use pipeline::machine::RetiredAt;
 
 /// The gaps of a run: how many clocks passed from loading to the first retirement, and from each to the next.
@@ -50,5 +53,25 @@ impl Gaps {
         for record in retired {
             self.end(record.clock);
         }
+    }
+}
+
+impl Listener for Gaps {
+    ghost heard = { λ g e k. k ≡ gaps_after g (retired_entries (e ∷ [])) };
+
+    ghost full = { λ _. false };
+
+    /// A clock in which something retires ends the gap since the latest.
+    #[inline(always)]
+    fn hear(&mut self, event: &Event) {
+        if event.retirement.is_some() {
+            self.end(event.clock.clock);
+        }
+    }
+
+    /// There is always room, since nothing is kept but the gaps.
+    #[inline(always)]
+    fn is_full(&self) -> bool {
+        false
     }
 }

@@ -1,4 +1,4 @@
-//! Long runs: as many clocks as are wanted, in the memory of a few log slots that are filled again and again.
+//! Long runs: as many clocks as are wanted, of which nothing is kept but the gaps between retirements.
 #![tactic(auto)]
 
 pub mod gaps;

@@ -1,18 +1,15 @@
 //! A run up to a number of clocks.
 ghost use Rattle.std.specs.Prelude.{◌≡◌, ℕ};
-ghost use Rattle.pipeline.specs.Calls.{empty_logs};
-ghost use Rattle.longrun.specs.LongRuns.{RanTo, Stretched};
+ghost use Rattle.longrun.specs.LongRuns.{RanTo};
 ghost use Rattle.longrun.specs.Tellings.{Watched};
 
 use crate::gaps::Gaps;
-use clocking::state::ClockRecord;
 use memory::Memory;
-use pipeline::journal::Journal;
-use pipeline::machine::{Machine, RetiredAt, Run};
+use pipeline::machine::Machine;
 use predictor::Predictor;
 
-/// How many slots the logs of a long run have.
-const SLOTS: usize = 256;
+/// After how many clocks who watches is told.
+const STRIDE: u32 = 256;
 
 /// Who is told now and then how far a run has come.
 pub trait Watch {
@@ -34,24 +31,6 @@ impl Watch for Unwatched {
     fn made(&mut self, _clocks: u32) {}
 }
 
-/// A run over lent slots, which are filled from the beginning; what retires goes into the gaps.
-fn stretch<P: Predictor, I: Memory, D: Memory>(
-    machine: &mut Machine<P, I, D>,
-    n: u32,
-    retired_slots: &mut [RetiredAt],
-    clock_slots: &mut [ClockRecord],
-    gaps: &mut Gaps,
-) -> Run
-    ensures { Stretched P.Predictor.table I.Memory.means D.Memory.means
-        (empty_logs retired_slots.old clock_slots.old) machine.old n gaps.old
-        result machine.new gaps.new }
-{
-    let mut journal = Journal::new(retired_slots, clock_slots);
-    let run = machine.run(n, &mut journal);
-    gaps.note(journal.retirements.records());
-    run
-}
-
 /// Clocks a machine until it has made so many, or has stopped, and notes the gaps between retirements. A machine that is held
 /// stays as it is. Who watches is told the machine's clocks after each 256 that are made here, and after the last.
 pub fn run_to<P: Predictor, I: Memory, D: Memory, W: Watch>(
@@ -65,12 +44,10 @@ pub fn run_to<P: Predictor, I: Memory, D: Memory, W: Watch>(
     ensures told { Watched W.Watch.hears
         machine.old.core.counts.clocks machine.new.core.counts.clocks watch.old watch.new }
 {
-    let mut retired_slots = [RetiredAt::EMPTY; SLOTS];
-    let mut clock_slots = [ClockRecord::EMPTY; SLOTS];
     let mut clocks = machine.counts().clocks;
     while clocks < limit && !machine.is_held() && machine.stopped().is_none() {
-        let n = (limit - clocks).min(SLOTS as u32);
-        stretch(machine, n, &mut retired_slots, &mut clock_slots, gaps);
+        let n = (limit - clocks).min(STRIDE);
+        machine.run_heard(n, gaps);
         clocks = machine.counts().clocks;
         watch.made(clocks);
     }

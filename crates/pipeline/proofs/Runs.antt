@@ -1,5 +1,5 @@
 -- Clocks in a row, between the logs before and after. Assumes nothing.
-use Rattle.std.proofs.Common.{◌≡◌, ℕ, zero, suc, ◌+◌, ◌<◌, Bool, true, false, if◌then◌else◌, ◌==◌, ◌⊎◌, List, [], ◌∷◌, ◌++◌, length, drop, Some, None, Ok, Err, sym, refl, ap, ◌∙◌, inl, inr, append_assoc, append-nil, length-append, arith}
+use Rattle.std.proofs.Common.{◌≡◌, ℕ, zero, suc, ◌+◌, ◌<◌, Bool, true, false, if◌then◌else◌, ◌==◌, ◌⊎◌, List, [], ◌∷◌, ◌++◌, length, drop, Some, None, sym, refl, ap, ◌∙◌, inl, inr, append_assoc, append-nil, length-append, arith}
 use Rattle.std.proofs.lemmas.List.{drop-drop}
 use Rattle.base.specs.Refusals.{number}
 use Rattle.base.specs.declared.refusal.Refusal.{Refusal}
@@ -7,8 +7,11 @@ use Rattle.base.specs.declared.refusal.Refusal.TheVariants.{FlatSize}
 use Rattle.memory.specs.Meaning.{Meaning}
 use Rattle.clocking.specs.Ports.{Table}
 use Rattle.clocking.specs.declared.state.Event.{Event}
-use Rattle.pipeline.specs.Calls.{Slots, Logs, with_records, is_full, logged, retired_at, retired_entries, clock_entries, is_stopped, refusal, ClockedInto, Clocks, start, next, Short, Ended, RanInto}
+use Rattle.pipeline.specs.Calls.{Slots, Logs, with_records, is_full, logged, retired_at, retired_entries, clock_entries, is_stopped, refusal_at, Ticked, FreeClocks, start, next, Clocks, Short, EndedAt, RanInto, RanHeard, Heard, silence, one_more, HeardRun}
+use Rattle.pipeline.specs.Logged.{logs, SameSlots, Adds}
+use Rattle.pipeline.specs.declared.journal.Journal.{Journal}
 use Rattle.pipeline.specs.declared.machine.Machine.{Machine}
+use Rattle.pipeline.specs.declared.machine.Run.{Run}
 
 -- ---- what is added to logs, one list after another
 
@@ -60,20 +63,20 @@ one_says_no false false false false e = absurd (e refl)
 
 module _ {P I D : Type 0} where
   -- nothing refuses a clock
-  pub record Free (l : Logs) (m : Machine P I D) : Type 0 where
+  pub record Free (full : Bool) (m : Machine P I D) : Type 0 where
     pub not_held : m.held ≡ false
     pub not_stopped : is_stopped m ≡ false
-    pub room_left : is_full l ≡ false
+    pub room_left : full ≡ false
     pub not_spent : (m.core.counts.clocks == 4294967295) ≡ false
 
-  pub free : (l : Logs) (m : Machine P I D) → refusal l m ≡ 0 → Free l m
-  free l m e =
-      let f = none_says_no m.held (is_stopped m) (is_full l) (m.core.counts.clocks == 4294967295) e in
+  pub free : (full : Bool) (m : Machine P I D) → refusal_at full m ≡ 0 → Free full m
+  free full m e =
+      let f = none_says_no m.held (is_stopped m) full (m.core.counts.clocks == 4294967295) e in
       record { not_held = f.0; not_stopped = f.1; room_left = f.2; not_spent = f.3 }
 
-  pub says_no : (l : Logs) (m : Machine P I D) → (refusal l m ≡ 0 → ⊥)
-      → (m.held ≡ true) ⊎ ((is_stopped m ≡ true) ⊎ ((is_full l ≡ true) ⊎ ((m.core.counts.clocks == 4294967295) ≡ true)))
-  says_no l m = one_says_no m.held (is_stopped m) (is_full l) (m.core.counts.clocks == 4294967295)
+  pub says_no : (full : Bool) (m : Machine P I D) → (refusal_at full m ≡ 0 → ⊥)
+      → (m.held ≡ true) ⊎ ((is_stopped m ≡ true) ⊎ ((full ≡ true) ⊎ ((m.core.counts.clocks == 4294967295) ≡ true)))
+  says_no full m = one_says_no m.held (is_stopped m) full (m.core.counts.clocks == 4294967295)
 
 -- ---- how a run ends
 
@@ -85,42 +88,92 @@ short : (n : ℕ) → Short 0 n
 short zero = inr (refl, refl)
 short (suc n) = inl (omega arith)
 
-module _ {P I D : Type 0} (j : Logs) (p : Machine P I D) (n made : ℕ) where
-  ended_by : (k : ℕ) → (k ≡ 0 → ⊥) → refusal j p ≡ k → Short made n → Ended j p n made k
+module _ {P I D : Type 0} (full : Bool) (p : Machine P I D) (n made : ℕ) where
+  ended_by : (k : ℕ) → (k ≡ 0 → ⊥) → refusal_at full p ≡ k → Short made n → EndedAt full p n made k
   ended_by zero some e s = absurd (some refl)
   ended_by (suc k) some e s = (s, e)
 
-  ended : (why : Refusal) → refusal j p ≡ number why → Short made n → Ended j p n made (number why)
+  ended : (why : Refusal) → refusal_at full p ≡ number why → Short made n → EndedAt full p n made (number why)
   ended why = ended_by (number why) (number_positive why)
 
--- from logs l and the machine m, k clocks come to the logs j and the machine p
-pub record ClocksInto {P I D : Type 0} (table : Table P) (instructions : Meaning I) (words : Meaning D) (l : Logs) (m : Machine P I D) (k : ℕ) (j : Logs) (p : Machine P I D) : Type 0 where
-  pub events : List Event
-  pub steps : Clocks table instructions words l m k events p
-  pub logs : j ≡ logged l events
+-- ---- what a listener hears
 
-module _ {P I D : Type 0} {table : Table P} {instructions : Meaning I} {words : Meaning D} {l : Logs} {m : Machine P I D} where
-  pub no_clocks : ClocksInto table instructions words l m 0 l m
-  no_clocks = record { events = []; steps = start; logs = sym (logged_none l) }
+module _ {P I D L : Type 0} (table : Table P) (instructions : Meaning I) (words : Meaning D) (heard : L → Event → L → Type 0) (full : L → Bool) (l : L) (m : Machine P I D) where
+  -- from the listener l and the machine m, k clocks come to i and p
+  pub record HeardClocks (k : ℕ) (i : L) (p : Machine P I D) : Type 0 where
+    pub events : List Event
+    pub steps : FreeClocks table instructions words (λ _. false) m k events p
+    pub told : Heard heard full l events i
 
-  module _ {k : ℕ} {j : Logs} {p : Machine P I D} (cs : ClocksInto table instructions words l m k j p) {i : Logs} {q : Machine P I D} where
-    -- an accepted clock more
-    pub one_more : ClockedInto table instructions words j p (Ok tt) i q → ClocksInto table instructions words l m (k + 1) i q
-    one_more (es, (says, (e, one, ticked), adds)) = record {
-      events = cs.events ++ e ∷ [];
-      steps = next e q cs.steps (rw cs.logs at says) ticked;
-      logs = adds ∙ ap (logged j) one ∙ ap (λ x. logged x (e ∷ [])) cs.logs ∙ logged_after l cs.events (e ∷ []);
-    }
+  pub none_heard : HeardClocks 0 l m
+  none_heard = record { events = []; steps = start; told = silence }
+
+  module _ (k : ℕ) (i : L) (p : Machine P I D) (cs : HeardClocks k i p) where
+    -- a clock more
+    pub one_heard : (j : L) (q : Machine P I D) → refusal_at (full i) p ≡ 0 → (e : Event) × Ticked table instructions words p e q × heard i e j → HeardClocks (k + 1) j q
+    one_heard j q z t =
+        let room = (free (full i) p z).room_left in
+        record { events = cs.events ++ t.0 ∷ []; steps = next t.0 q cs.steps (rw room at z) t.1; told = one_more t.0 j cs.told room t.2 }
 
     -- the clock that is refused
-    pub cut_short : (n : ℕ) (why : Refusal) → k < n → ClockedInto table instructions words j p (Err why) i q → RanInto table instructions words l m n (record { made = k; why = Some why }) i q
-    cut_short n why lt (es, (says, none, same, logs)) =
-        (cs.events, (rw same cs.steps, logs ∙ cs.logs, rw (logs, same) (ended j p n k why says (inl lt))))
+    pub cut_short : (n : ℕ) (why : Refusal) → k < n → refusal_at (full i) p ≡ number why → HeardRun heard full table instructions words l m n (record { made = k; why = Some why }) i p
+    cut_short n why lt says = (cs.events, (cs.steps, ended (full i) p n k why says (inl lt)), cs.told)
 
-  -- as many as were asked for
-  pub all_made : {k : ℕ} {j : Logs} {p : Machine P I D} (cs : ClocksInto table instructions words l m k j p) (n : ℕ) → k ≡ n → (k ≡ 0 → refusal j p ≡ 0) → RanInto table instructions words l m n (record { made = n; why = None }) j p
-  all_made cs n e f = (cs.events, (rw (← e) cs.steps, cs.logs, (refl, λ z. f (e ∙ z))))
+    -- as many as were asked for
+    pub all_made : (n : ℕ) → k ≡ n → (k ≡ 0 → refusal_at (full i) p ≡ 0) → HeardRun heard full table instructions words l m n (record { made = n; why = None }) i p
+    all_made n e f = (cs.events, (rw (← e) cs.steps, (refl, λ z. f (e ∙ z))), cs.told)
 
   -- refused before the first
-  pub at_once : (n : ℕ) (why : Refusal) → refusal l m ≡ number why → RanInto table instructions words l m n (record { made = 0; why = Some why }) l m
-  at_once n why says = ([], (start, sym (logged_none l), ended l m n 0 why says (short n)))
+  pub at_once : (n : ℕ) (why : Refusal) → refusal_at (full l) m ≡ number why → HeardRun heard full table instructions words l m n (record { made = 0; why = Some why }) l m
+  at_once n why says = ([], (start, ended (full l) m n 0 why says (short n)), silence)
+
+-- ---- what a journal hears
+
+-- the logs have room before each of these events
+abbrev Roomy : Logs → List Event → Type 0
+Roomy l [] = Unit {0}
+Roomy l (e ∷ es) = (is_full l ≡ false) × Roomy (logged l (e ∷ [])) es
+
+roomy_more : (l : Logs) (es : List Event) (e : Event) → Roomy l es → is_full (logged l es) ≡ false → Roomy l (es ++ e ∷ [])
+roomy_more l [] e r f = (ap is_full (sym (logged_none l)) ∙ f, tt)
+roomy_more l (x ∷ es) e r f = (r.0, roomy_more (logged l (x ∷ [])) es e r.1 (ap is_full (logged_after l (x ∷ []) es) ∙ f))
+
+roomy_less : (l : Logs) (es : List Event) (e : Event) → Roomy l (es ++ e ∷ []) → Roomy l es × (is_full (logged l es) ≡ false)
+roomy_less l [] e r = (tt, ap is_full (logged_none l) ∙ r.0)
+roomy_less l (x ∷ es) e r =
+    let rest = roomy_less (logged l (x ∷ [])) es e r.1 in
+    ((r.0, rest.0), ap is_full (sym (logged_after l (x ∷ []) es)) ∙ rest.1)
+
+same : (j : Journal) → SameSlots j j
+same j = record { retired_room = refl; clock_room = refl; retired_lent = refl; clock_lent = refl }
+
+still : (i j k : Journal) → SameSlots i j → SameSlots j k → SameSlots i k
+still i j k s t = record {
+  retired_room = t.retired_room ∙ s.retired_room;
+  clock_room = t.clock_room ∙ s.clock_room;
+  retired_lent = t.retired_lent ∙ s.retired_lent;
+  clock_lent = t.clock_lent ∙ s.clock_lent;
+}
+
+pub journal_hears : (j : Journal) (es : List Event) (k : Journal) → Heard (λ j e k. Adds j (e ∷ []) k) (λ j. is_full (logs j)) j es k → Adds j es k × Roomy (logs j) es
+journal_hears j es k silence = (record { logs_so = sym (logged_none (logs j)); slots = same j }, tt)
+journal_hears j es k (one_more {es = fs} {l = i} e q h f a) =
+    let b = journal_hears j fs i h in (
+      record {
+        logs_so = a.logs_so ∙ ap (λ x. logged x (e ∷ [])) b.0.logs_so ∙ logged_after (logs j) fs (e ∷ []);
+        slots = still j i k b.0.slots a.slots;
+      },
+      roomy_more (logs j) fs e b.1 (ap is_full (sym b.0.logs_so) ∙ f),
+    )
+
+module _ {P I D : Type 0} (table : Table P) (instructions : Meaning I) (words : Meaning D) where
+  into_logs : (l : Logs) (m : Machine P I D) (k : ℕ) (es : List Event) (n : Machine P I D) → FreeClocks table instructions words (λ _. false) m k es n → Roomy l es
+      → Clocks table instructions words l m k es n
+  into_logs l m k es n start r = start
+  into_logs l m k es n (next {k = i} {es = fs} {n = p} e q c f t) r =
+      let b = roomy_less l fs e r in next e q (into_logs l m i fs p c b.0) (rw b.1 f) t
+
+  -- the journal that heard a run has all of it in its logs
+  pub ran_into : (j k : Journal) (m p : Machine P I D) (n : ℕ) (r : Run) (es : List Event) → RanHeard table instructions words (is_full (logs k)) m n r es p
+      → Adds j es k × Roomy (logs j) es → RanInto table instructions words (logs j) m n r (logs k) p
+  ran_into j k m p n r es ran b = (es, (into_logs (logs j) m r.made es p ran.0 b.1, b.0.logs_so, ran.1))

@@ -1,5 +1,5 @@
 -- The main statement, from what every clock keeps. Assumes nothing.
-use Rattle.std.proofs.Common.{◌≡◌, ℕ, ◌+◌, ◌≤◌, false, List, [], ◌∷◌, ◌++◌, length, is_some, Some, None, Ok, Err, Option, Result, sym, refl, ap, ◌∙◌, append_assoc, append-nil, arith}
+use Rattle.std.proofs.Common.{◌≡◌, ℕ, ◌+◌, ◌≤◌, Bool, false, List, [], ◌∷◌, ◌++◌, length, is_some, Some, None, Ok, Err, Option, Result, sym, refl, ap, ◌∙◌, append_assoc, append-nil, arith}
 use Rattle.std.proofs.lemmas.List.{append_cancel_left}
 use Rattle.std.proofs.lemmas.Bool.Decides.{nat_tests}
 use Rattle.base.specs.declared.refusal.Refusal.{Refusal}
@@ -10,8 +10,8 @@ use Rattle.clocking.specs.Ports.{Table}
 use Rattle.clocking.specs.declared.state.Core.{Core}
 use Rattle.clocking.specs.declared.state.Event.{Event}
 use Rattle.clocking.proofs.Agrees.{Kept, Fresh, kept_first, kept_cycle, kept_agrees}
-use Rattle.pipeline.specs.Calls.{Logs, logged, retired_entries, clock_entries, refusal, Ticked, Clocked, Clocks, start, next, HoldCall, ReleaseCall}
-use Rattle.pipeline.specs.Theorem.{Entries, followed_by, entries_of, Added, Calls, none, clock, run, hold, release, pause, reading, Agrees}
+use Rattle.pipeline.specs.Calls.{Logs, is_full, logged, retired_entries, clock_entries, refusal_at, Ticked, Clocked, FreeClocks, start, next, HoldCall, ReleaseCall}
+use Rattle.pipeline.specs.Theorem.{Entries, followed_by, entries_of, Added, Calls, none, clock, run, run_heard, hold, release, pause, reading, Agrees}
 use Rattle.pipeline.specs.Pauses.{Paused}
 use Rattle.pipeline.specs.declared.machine.Machine.{Machine}
 use Rattle.pipeline.specs.declared.machine.Rejected.{Rejected}
@@ -38,6 +38,11 @@ numbered_at n (x ∷ a) e b k = let f = numbered_at (n + 1) a e b k.1 in omega a
 
 -- ---- the entries of a call are those of its clocks
 
+told_more : (h : List Event) (put : Entries) (made : List Event) → put ≡ entries_of h → followed_by put (entries_of made) ≡ entries_of (h ++ made)
+told_more h put made w =
+    ap (λ x. followed_by x (entries_of made)) w
+    ∙ λ i. record { retired = sym (retired_after h made) i; clocks = sym (clocks_after h made) i }
+
 written_more : (h : List Event) (put : Entries) (before after : Logs) (made : List Event) (added : Entries) → put ≡ entries_of h → after ≡ logged before made → Added before after added
     → followed_by put added ≡ entries_of (h ++ made)
 written_more h put before after made added w e a =
@@ -45,8 +50,7 @@ written_more h put before after made added w e a =
     append_cancel_left before.retired.records added.retired (retired_entries made) (sym a.retired ∙ ap (λ (l : Logs). l.retired.records) e) in
     let c : added.clocks ≡ clock_entries made =
     append_cancel_left before.clocks.records added.clocks (clock_entries made) (sym a.clocks ∙ ap (λ (l : Logs). l.clocks.records) e) in
-    (λ i. followed_by (w i) (record { retired = r i; clocks = c i }))
-    ∙ λ i. record { retired = sym (retired_after h made) i; clocks = sym (clocks_after h made) i }
+    (λ i. followed_by put (record { retired = r i; clocks = c i })) ∙ told_more h put made w
 
 module _ {P I D : Type 0} (table : Table P) (instructions : Meaning I) (words : Meaning D) (il : Lawful instructions) (dl : Lawful words) (first : Machine P I D) where
   record Holds (h : List Event) (m : Core P I D) : Type 0 where
@@ -58,9 +62,9 @@ module _ {P I D : Type 0} (table : Table P) (instructions : Meaning I) (words : 
   clock_number None m e n w = (ap (λ (x : Event). x.clock.clock) w.told_so, w.counted.clocks)
   clock_number (Some stop) m e n w = (ap (λ (x : Event). x.clock.clock) w.told_so, w.counted.clocks)
 
-  by_clock : (h : List Event) (l : Logs) (m : Machine P I D) (e : Event) (n : Machine P I D) → Holds h m.core → refusal l m ≡ 0 → Ticked table instructions words m e n → Holds (h ++ e ∷ []) n.core
-  by_clock h l m e n k z t =
-      let f = free l m z in
+  by_clock : (h : List Event) (full : Bool) (m : Machine P I D) (e : Event) (n : Machine P I D) → Holds h m.core → refusal_at full m ≡ 0 → Ticked table instructions words m e n → Holds (h ++ e ∷ []) n.core
+  by_clock h full m e n k z t =
+      let f = free full m z in
       let unspent = f.not_spent in
       let bound = k.bounded in
       let counts = (kept_agrees table instructions words il dl first.core h m.core k.kept).accounted.clock_count in
@@ -75,12 +79,12 @@ module _ {P I D : Type 0} (table : Table P) (instructions : Meaning I) (words : 
   by_clocked : (h : List Event) (l j : Logs) (m : Machine P I D) (r : Result (Unit {0}) Refusal) (es : List Event) (n : Machine P I D) → Holds h m.core → Clocked table instructions words l m r es j n
       → Holds (h ++ es) n.core × (j ≡ logged l es)
   by_clocked h l j m (Err why) es n k c = (rw (c.1, c.2, append-nil h) k, c.3 ∙ sym (logged_none l) ∙ ap (logged l) (sym c.1))
-  by_clocked h l j m (Ok u) es n k c = (rw c.1.1 (by_clock h l m c.1.0 n k c.0 c.1.2), c.2)
+  by_clocked h l j m (Ok u) es n k c = (rw c.1.1 (by_clock h (is_full l) m c.1.0 n k c.0 c.1.2), c.2)
 
-  by_clocks : (h : List Event) (l : Logs) (m : Machine P I D) (j : ℕ) (es : List Event) (n : Machine P I D) → Holds h m.core → Clocks table instructions words l m j es n → Holds (h ++ es) n.core
-  by_clocks h l m j es n k start = rw (append-nil h) k
-  by_clocks h l m j es n k (next {k = i} {es = fs} {n = p} e q c f t) =
-      rw (sym (append_assoc h fs (e ∷ []))) (by_clock (h ++ fs) (logged l fs) p e q (by_clocks h l m i fs p k c) f t)
+  by_clocks : (h : List Event) (full : List Event → Bool) (m : Machine P I D) (j : ℕ) (es : List Event) (n : Machine P I D) → Holds h m.core → FreeClocks table instructions words full m j es n → Holds (h ++ es) n.core
+  by_clocks h full m j es n k start = rw (append-nil h) k
+  by_clocks h full m j es n k (next {k = i} {es = fs} {n = p} e q c f t) =
+      rw (sym (append_assoc h fs (e ∷ []))) (by_clock (h ++ fs) (full fs) p e q (by_clocks h full m i fs p k c) f t)
 
   by_hold : (h : List Event) (m : Machine P I D) (r : Result HoldToken Refusal) (n : Machine P I D) → Holds h m.core → HoldCall m r n → Holds h n.core
   by_hold h m (Ok token) n k c = rw c.2 k
@@ -102,7 +106,10 @@ module _ {P I D : Type 0} (table : Table P) (instructions : Meaning I) (words : 
       (d.0, written_more g q before after es added b.1 d.1 a)
   by_calls h put m k (run {h = g} {put = q} {m = p} before after count r es added n cs c a) =
       let b = by_calls g q p k cs in
-      (by_clocks g before p r.made es n b.0 c.0, written_more g q before after es added b.1 c.1 a)
+      (by_clocks g (λ x. is_full (logged before x)) p r.made es n b.0 c.0, written_more g q before after es added b.1 c.1 a)
+  by_calls h put m k (run_heard {h = g} {put = q} {m = p} full count r es n cs c) =
+      let b = by_calls g q p k cs in
+      (by_clocks g (λ _. false) p r.made es n b.0 c.0, told_more g q es b.1)
   by_calls h put m k (hold {h = g} {put = q} {m = p} r n cs c) = let b = by_calls g q p k cs in (by_hold g p r n b.0 c, b.1)
   by_calls h put m k (release {h = g} {put = q} {m = p} token r n cs c) = let b = by_calls g q p k cs in (by_release g p token r n b.0 c, b.1)
   by_calls h put m k (pause {h = g} {put = q} {m = p} r n cs c) = let b = by_calls g q p k cs in (by_pause g p r n b.0 c, b.1)

@@ -102,14 +102,19 @@ logged l es = record {
 abbrev pub is_stopped : {P I D : Type 0} → Machine P I D → Bool
 is_stopped m = is_some m.core.stopped
 
--- with which number a clock is refused: that of the first test that says no, or 0
-abbrev pub refusal : {P I D : Type 0} → Logs → Machine P I D → ℕ
-refusal l m =
+-- with which number a clock is refused: that of the first test that says no, or 0; who is told of it
+-- may be full
+abbrev pub refusal_at : {P I D : Type 0} → Bool → Machine P I D → ℕ
+refusal_at full m =
     if m.held then 4
     else (if is_stopped m then 5
-    else (if is_full l then 6
+    else (if full then 6
     else (if m.core.counts.clocks == 4294967295 then 7
     else 0)))
+
+-- that of a clock into logs
+abbrev pub refusal : {P I D : Type 0} → Logs → Machine P I D → ℕ
+refusal l m = refusal_at (is_full l) m
 
 module _ {P I D : Type 0} (table : Table P) (instructions : Meaning I) (words : Meaning D) where
   -- an accepted clock of the machine: it is what the rule has, and keeps the laws
@@ -136,27 +141,39 @@ module _ {P I D : Type 0} (table : Table P) (instructions : Meaning I) (words : 
 
 -- ---- run
 
--- so many accepted clocks in a row
-pub data Clocks {P I D : Type 0}
-    (table : Table P) (instructions : Meaning I) (words : Meaning D) (l : Logs) (m : Machine P I D)
+-- so many accepted clocks in a row, where after some events who is told of them may be full
+pub data FreeClocks {P I D : Type 0}
+    (table : Table P) (instructions : Meaning I) (words : Meaning D) (full : List Event → Bool)
+    (m : Machine P I D)
     : ℕ → List Event → Machine P I D → Type 0 where
-  start : Clocks table instructions words l m 0 [] m
+  start : FreeClocks table instructions words full m 0 [] m
   next : {k : ℕ} {es : List Event} {n : Machine P I D} (e : Event) (p : Machine P I D)
-      → Clocks table instructions words l m k es n
-      → refusal (logged l es) n ≡ 0
+      → FreeClocks table instructions words full m k es n
+      → refusal_at (full es) n ≡ 0
       → Ticked table instructions words n e p
-      → Clocks table instructions words l m (k + 1) (es ++ e ∷ []) p
+      → FreeClocks table instructions words full m (k + 1) (es ++ e ∷ []) p
+
+-- those into logs
+abbrev pub Clocks : {P I D : Type 0} → Table P → Meaning I → Meaning D → Logs → Machine P I D
+    → ℕ → List Event → Machine P I D → Type 0
+Clocks table instructions words l =
+    FreeClocks table instructions words (λ es. is_full (logged l es))
 
 -- fewer than asked for, or none asked for
 abbrev pub Short : ℕ → ℕ → Type 0
 Short made n = (made < n) ⊎ ((made ≡ 0) × (n ≡ 0))
 
--- How a run of n ends, by the number of its reason, at the logs and the machine then reached.
+-- How a run of n ends, by the number of its reason, at the machine then reached; who is told of it may
+-- then be full.
 -- 0: all were made, and where none were asked for, nothing refused the first test.
 -- Any other: it is short, and just with this number the next clock would be refused.
+abbrev pub EndedAt : {P I D : Type 0} → Bool → Machine P I D → ℕ → ℕ → ℕ → Type 0
+EndedAt full p n made zero = (made ≡ n) × (n ≡ 0 → refusal_at full p ≡ 0)
+EndedAt full p n made why = Short made n × (refusal_at full p ≡ why)
+
+-- at logs
 abbrev pub Ended : {P I D : Type 0} → Logs → Machine P I D → ℕ → ℕ → ℕ → Type 0
-Ended j p n made zero = (made ≡ n) × (n ≡ 0 → refusal j p ≡ 0)
-Ended j p n made why = Short made n × (refusal j p ≡ why)
+Ended j = EndedAt (is_full j)
 
 module _ {P I D : Type 0} (table : Table P) (instructions : Meaning I) (words : Meaning D) where
   -- the clocks es that the call made, and the logs j and the machine p after it
@@ -168,6 +185,32 @@ module _ {P I D : Type 0} (table : Table P) (instructions : Meaning I) (words : 
 
   abbrev pub RanInto : Logs → Machine P I D → ℕ → Run → Logs → Machine P I D → Type 0
   RanInto l m n r j p = (es : List Event) × Ran l m n r es j p
+
+-- ---- a run that a listener hears
+
+module _ {P I D : Type 0} (table : Table P) (instructions : Meaning I) (words : Meaning D) where
+  -- the clocks es that the call made and the machine p after it; the listener may be full at its end,
+  -- and was not before
+  abbrev pub RanHeard : Bool → Machine P I D → ℕ → Run → List Event → Machine P I D → Type 0
+  RanHeard full m n r es p =
+      FreeClocks table instructions words (λ _. false) m r.made es p
+      × EndedAt full p n r.made (reason r.why)
+
+module _ {L : Type 0} (heard : L → Event → L → Type 0) (full : L → Bool) where
+  -- from before it hears these events, each once, in order, and is full before none of them
+  pub data Heard (before : L) : List Event → L → Type 0 where
+    silence : Heard before [] before
+    one_more : {es : List Event} {l : L} (e : Event) (after : L)
+        → Heard before es l
+        → full l ≡ false
+        → heard l e after
+        → Heard before (es ++ e ∷ []) after
+
+  -- the listener i and the machine p after the call: what i heard is what was made
+  abbrev pub HeardRun : {P I D : Type 0} → Table P → Meaning I → Meaning D
+      → L → Machine P I D → ℕ → Run → L → Machine P I D → Type 0
+  HeardRun table instructions words l m n r i p =
+      (es : List Event) × RanHeard table instructions words (full i) m n r es p × Heard l es i
 
 -- ---- hold and release
 

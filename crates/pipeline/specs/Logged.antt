@@ -1,9 +1,10 @@
 -- What the calls' contracts say of the two logs. Assumes nothing.
-use Rattle.std.specs.Prelude.{◌≡◌, Result}
+use Rattle.std.specs.Prelude.{◌≡◌, Bool, List, Result}
 use Rattle.base.specs.Logs.{records, spare, room}
 use Rattle.base.specs.Refusals.{Says}
 use Rattle.base.specs.declared.refusal.Refusal.{Refusal}
-use Rattle.pipeline.specs.Calls.{Logs, refusal}
+use Rattle.clocking.specs.declared.state.Event.{Event}
+use Rattle.pipeline.specs.Calls.{Logs, logged, refusal_at}
 use Rattle.pipeline.specs.declared.journal.Journal.{Journal}
 use Rattle.pipeline.specs.declared.machine.Machine.{Machine}
 
@@ -21,6 +22,11 @@ pub record SameSlots (j k : Journal) : Type 0 where
   pub retired_lent : k.retirements.slots.ghost_name ≡ j.retirements.slots.ghost_name
   pub clock_lent : k.clocks.slots.ghost_name ≡ j.clocks.slots.ghost_name
 
+-- these events have come into the two logs
+pub record Adds (j : Journal) (es : List Event) (k : Journal) : Type 0 where
+  pub logs_so : logs k ≡ logged (logs j) es
+  pub slots : SameSlots j k
+
 -- what the test before a clock says
-abbrev pub Tested : {P I D : Type 0} → Logs → Machine P I D → Result (Unit {0}) Refusal → Type 0
-Tested l m = Says (λ _. refusal l m ≡ 0) (λ why. refusal l m ≡ why)
+abbrev pub Tested : {P I D : Type 0} → Bool → Machine P I D → Result (Unit {0}) Refusal → Type 0
+Tested full m = Says (λ _. refusal_at full m ≡ 0) (λ why. refusal_at full m ≡ why)

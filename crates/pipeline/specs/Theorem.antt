@@ -1,12 +1,12 @@
 -- The main statement: what holds of a machine after any calls on it. Assumes nothing.
-use Rattle.std.specs.Prelude.{◌≡◌, ℕ, ◌+◌, List, [], ◌∷◌, ◌++◌, length, Result}
+use Rattle.std.specs.Prelude.{◌≡◌, ℕ, ◌+◌, Bool, List, [], ◌∷◌, ◌++◌, length, Result}
 use Rattle.base.specs.declared.refusal.Refusal.{Refusal}
 use Rattle.memory.specs.Meaning.{Meaning}
 use Rattle.clocking.specs.Agreement.{Agreement}
 use Rattle.clocking.specs.Ports.{Table}
 use Rattle.clocking.specs.declared.state.ClockRecord.{ClockRecord}
 use Rattle.clocking.specs.declared.state.Event.{Event}
-use Rattle.pipeline.specs.Calls.{Logs, retired_entries, clock_entries, Clocked, Ran, HoldCall, ReleaseCall}
+use Rattle.pipeline.specs.Calls.{Logs, retired_entries, clock_entries, Clocked, Ran, RanHeard, HoldCall, ReleaseCall}
 use Rattle.pipeline.specs.Pauses.{Paused}
 use Rattle.pipeline.specs.declared.machine.Machine.{Machine}
 use Rattle.pipeline.specs.declared.machine.Rejected.{Rejected}
@@ -14,7 +14,7 @@ use Rattle.pipeline.specs.declared.machine.RetiredAt.{RetiredAt}
 use Rattle.pipeline.specs.declared.machine.Run.{Run}
 use Rattle.pipeline.specs.declared.token.HoldToken.{HoldToken}
 
--- ---- what calls put into the callers' logs, in order
+-- ---- what calls put into the callers' logs, in order, and what listeners heard among it
 
 pub record Entries : Type 0 where
   pub retired : List RetiredAt
@@ -42,7 +42,8 @@ pub record Added (before after : Logs) (added : Entries) : Type 0 where
 
 -- A machine is reached from first by calls, each accepted or refused, that made the clocks of a
 -- history and put entries into the logs that they were given: one case for each call that can alter
--- a machine, by the relation that the call ensures, and one for all readings.
+-- a machine, by the relation that the call ensures, and one for all readings. A run that a listener
+-- hears may be given no logs: its entries are those of the events that the listener heard.
 pub data Calls {P I D : Type 0}
     (table : Table P) (instructions : Meaning I) (words : Meaning D) (first : Machine P I D)
     : List Event → Entries → Machine P I D → Type 0 where
@@ -59,6 +60,11 @@ pub data Calls {P I D : Type 0}
       → Ran table instructions words before m count answer made after n
       → Added before after added
       → Calls table instructions words first (h ++ made) (followed_by put added) n
+  run_heard : {h : List Event} {put : Entries} {m : Machine P I D} (full : Bool)
+      (count : ℕ) (answer : Run) (made : List Event) (n : Machine P I D)
+      → Calls table instructions words first h put m
+      → RanHeard table instructions words full m count answer made n
+      → Calls table instructions words first (h ++ made) (followed_by put (entries_of made)) n
   hold : {h : List Event} {put : Entries} {m : Machine P I D}
       (answer : Result HoldToken Refusal) (n : Machine P I D)
       → Calls table instructions words first h put m

@@ -2,8 +2,9 @@
 ghost use Rattle.std.specs.Prelude.{◌≡◌, [], ◌∷◌, length, false};
 ghost use Rattle.base.specs.Logs.{room};
 ghost use Rattle.pipeline.specs.Calls.{empty_logs, is_full, logged};
-ghost use Rattle.pipeline.specs.Logged.{logs, SameSlots};
+ghost use Rattle.pipeline.specs.Logged.{logs, SameSlots, Adds};
 
+use crate::listener::Listener;
 use crate::machine::RetiredAt;
 use base::log::Log;
 use clocking::state::{ClockRecord, Event};
@@ -33,15 +34,8 @@ impl<'a> Journal<'a> {
         }
     }
 
-    /// Whether one of the two has no slot left.
-    pub(crate) fn is_full(&self) -> bool
-        ensures { result ≡ is_full (logs self.now) }
-    {
-        self.retirements.is_full() || self.clocks.is_full()
-    }
-
     /// Adds what a clock tells, for which there is room.
-    pub(crate) fn record(&mut self, event: Event)
+    fn record(&mut self, event: Event)
         requires { is_full (logs self.old) ≡ false }
         ensures adds { logs self.new ≡ logged (logs self.old) (event ∷ []) }
         ensures slots { SameSlots self.old self.new }
@@ -54,5 +48,23 @@ impl<'a> Journal<'a> {
             self.retirements.push(retired).unwrap();
         }
         self.clocks.push(event.clock).unwrap();
+    }
+}
+
+impl Listener for Journal<'_> {
+    ghost heard = { λ j e k. Adds j (e ∷ []) k };
+
+    ghost full = { λ j. is_full (logs j) };
+
+    /// Adds what a clock tells, where each of the two has a slot left.
+    fn hear(&mut self, event: &Event) {
+        if !self.is_full() {
+            self.record(*event);
+        }
+    }
+
+    /// Whether one of the two has no slot left.
+    fn is_full(&self) -> bool {
+        self.retirements.is_full() || self.clocks.is_full()
     }
 }

@@ -2,6 +2,7 @@
 #![tactic(auto)]
 
 pub mod journal;
+pub mod listener;
 pub mod machine;
 pub mod pause;
 pub mod token;

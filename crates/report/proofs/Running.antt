@@ -64,7 +64,7 @@ ended_why n a b es p made (suc why) la lb e h k c bound =
     (⊎_elim (λ x. inl x)
     (⊎_elim (λ x. let full = all_filled n a b es la lb x in inr (omega arith))
     (λ x. let spent = eqb-true p.core.counts.clocks 4294967295 x in inr (omega arith))))
-    (says_no (logged (empty_logs a b) es) p (λ z. let some = e.1 in omega arith))
+    (says_no (is_full (logged (empty_logs a b) es)) p (λ z. let some = e.1 in omega arith))
 
 module _ {P I D : Type 0} (table : Table P) (instructions : Meaning I) (words : Meaning D) where
   events_counted : (l : Logs) (m : Machine P I D) (k : ℕ) (es : List Event) (n : Machine P I D) → Clocks table instructions words l m k es n → length es ≡ k
@@ -91,8 +91,9 @@ module _ {P I D : Type 0} (table : Table P) (instructions : Meaning I) (words : 
       let made : P (empty_logs a b) = subst P empty ran.1 in
       let l = empty_logs a b in
       let filled : logs after ≡ logged l es = made.1 in
-      let on = clocks_on table instructions words l first n r es (logs after) last made in
-      let past = not_past table instructions words l first n r es (logs after) last made in
+      let fulls : List Event → Bool = λ x. is_full (logged l x) in
+      let on = clocks_on table instructions words fulls first n r es (is_full (logs after)) last made.0 made.2 in
+      let past = not_past table instructions words fulls first n r es (is_full (logs after)) last made.0 made.2 in
       let counted = events_counted l first r.made es last made.0 in
       let Q : Logs → Type 0 = λ j. Ended j last n r.made (reason r.why) in
       record {
@@ -103,14 +104,14 @@ module _ {P I D : Type 0} (table : Table P) (instructions : Meaning I) (words : 
         finished = λ held zero. record {
           within = omega arith;
           ended = ended_why n a b es last r.made (reason r.why) la lb (subst Q filled made.2)
-              (held_on table instructions words l first n r es (logs after) last made ∙ held) counted (omega arith) bound;
+              (held_on table instructions words fulls first n r es (is_full (logs after)) last made.0 made.2 ∙ held) counted (omega arith) bound;
         };
         retired_so = ap (λ (x : Logs). x.retired.records) filled;
         clocks_so = ap (λ (x : Logs). x.clocks.records) filled;
       }
 
   module _ (s : Setup) (w : Longest) (first last : Machine P I D) where
-    -- in a few slots
+    -- with no log
     pub unlogged_shown : (g k : Gaps) (o : Outcomes) (text : List ℕ) → s.log ≡ false → g ≡ none_yet → RanTo table instructions words s.clocks first g last k → o ≡ outcomes_of last k
         → text ≡ report_text s w o → Shown table instructions words s w first text
     unlogged_shown g k o text unasked fresh ran oe te =

@@ -1,9 +1,11 @@
 //! Clocks, one or many.
 ghost use Rattle.std.specs.Prelude.{◌≡◌};
-ghost use Rattle.pipeline.specs.Calls.{ClockedInto, RanInto, refusal};
+ghost use Rattle.clocking.specs.declared.state.Event.{Event};
+ghost use Rattle.pipeline.specs.Calls.{Ticked, ClockedInto, RanInto, HeardRun, refusal_at};
 ghost use Rattle.pipeline.specs.Logged.{logs, SameSlots, Tested};
 
 use crate::journal::Journal;
+use crate::listener::Listener;
 use crate::machine::{Machine, Run};
 use base::refusal::Refusal;
 use cycle::checked_cycle;
@@ -11,10 +13,10 @@ use memory::Memory;
 use predictor::Predictor;
 
 impl<P: Predictor, I: Memory, D: Memory> Machine<P, I, D> {
-    /// Whether a clock can be made. It is refused where the machine is held, it has stopped, a log is full, or all clocks are
-    /// spent, and the reason is the first of these.
-    fn ready(&self, journal: &Journal) -> Result<(), Refusal>
-        ensures { Tested (logs journal.now) self.now result }
+    /// Whether a clock can be made. It is refused where the machine is held, it has stopped, the listener is full, or all
+    /// clocks are spent, and the reason is the first of these.
+    fn ready<L: Listener>(&self, listener: &L) -> Result<(), Refusal>
+        ensures { Tested (L.Listener.full listener.now) self.now result }
     {
         if self.held {
             return Err(Refusal::Held);
@@ -22,13 +24,25 @@ impl<P: Predictor, I: Memory, D: Memory> Machine<P, I, D> {
         if self.core.stopped.is_some() {
             return Err(Refusal::Stopped);
         }
-        if journal.is_full() {
+        if listener.is_full() {
             return Err(Refusal::LogFull);
         }
         if self.core.counts.clocks == u32::MAX {
             return Err(Refusal::ClocksSpent);
         }
         Ok(())
+    }
+
+    /// One clock, which nothing refuses, told to the listener.
+    #[inline(always)]
+    fn tick<L: Listener>(&mut self, listener: &mut L)
+        requires { refusal_at (L.Listener.full listener.old) self.old ≡ 0 }
+        ensures { (e : Event)
+            × Ticked P.Predictor.table I.Memory.means D.Memory.means self.old e self.new
+            × L.Listener.heard listener.old e listener.new }
+    {
+        let event = checked_cycle(&mut self.core).unwrap();
+        listener.hear(&event);
     }
 
     /// One clock. What it tells is added to the journal: the clock, and what retires in it. A clock that is refused alters
@@ -39,26 +53,43 @@ impl<P: Predictor, I: Memory, D: Memory> Machine<P, I, D> {
         ensures slots { SameSlots journal.old journal.new }
     {
         self.ready(journal)?;
-        journal.record(checked_cycle(&mut self.core).unwrap());
+        self.tick(journal);
         Ok(())
     }
 
     /// Up to `n` clocks in a row, of which nothing refuses the first.
-    fn repeat(&mut self, n: u32, journal: &mut Journal) -> Run
-        requires { refusal (logs journal.old) self.old ≡ 0 }
-        ensures does { RanInto P.Predictor.table I.Memory.means D.Memory.means
-            (logs journal.old) self.old n result (logs journal.new) self.new }
-        ensures slots { SameSlots journal.old journal.new }
+    fn repeat<L: Listener>(&mut self, n: u32, listener: &mut L) -> Run
+        requires { refusal_at (L.Listener.full listener.old) self.old ≡ 0 }
+        ensures { HeardRun L.Listener.heard L.Listener.full
+            P.Predictor.table I.Memory.means D.Memory.means
+            listener.old self.old n result listener.new self.new }
     {
         for made in 0..n {
-            if let Err(why) = self.clock(journal) {
+            if let Err(why) = self.ready(listener) {
                 return Run {
                     made,
                     why: Some(why),
                 };
             }
+            self.tick(listener);
         }
         Run { made: n, why: None }
+    }
+
+    /// Up to `n` clocks in a row, each told to the listener, once, when it is made: how many were made, and the refusal of the
+    /// next where they are fewer. It is refused with 6 where the listener is full, and else as `run`.
+    pub fn run_heard<L: Listener>(&mut self, n: u32, listener: &mut L) -> Run
+        ensures { HeardRun L.Listener.heard L.Listener.full
+            P.Predictor.table I.Memory.means D.Memory.means
+            listener.old self.old n result listener.new self.new }
+    {
+        match self.ready(listener) {
+            Ok(()) => self.repeat(n, listener),
+            Err(why) => Run {
+                made: 0,
+                why: Some(why),
+            },
+        }
     }
 
     /// Up to `n` clocks in a row: how many were made, and the refusal of the next where they are fewer. The first test is
@@ -68,12 +99,6 @@ impl<P: Predictor, I: Memory, D: Memory> Machine<P, I, D> {
             (logs journal.old) self.old n result (logs journal.new) self.new }
         ensures slots { SameSlots journal.old journal.new }
     {
-        match self.ready(journal) {
-            Ok(()) => self.repeat(n, journal),
-            Err(why) => Run {
-                made: 0,
-                why: Some(why),
-            },
-        }
+        self.run_heard(n, journal)
     }
 }

@@ -30,7 +30,7 @@ fn outcomes_of<P: Predictor, I: Memory, D: Memory>(
     }
 }
 
-/// Runs the machine up to the limit of the set-up, in a few log slots, and reports.
+/// Runs the machine up to the limit of the set-up, with no log, and reports.
 fn unlogged<P: Predictor, I: Memory, D: Memory, W: Watch>(
     heap: Global,
     setup: &Setup,

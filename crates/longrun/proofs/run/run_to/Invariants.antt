@@ -1,4 +1,4 @@
-use Rattle.std.proofs.Common.{◌≡◌, ◌-◌, ◌≤◌, length}
+use Rattle.std.proofs.Common.{◌≡◌, ◌-◌, ◌≤◌}
 use Rattle.pipeline.specs.Calls.{is_stopped}
 use Rattle.longrun.specs.LongRuns.{Reached}
 use Rattle.longrun.proofs.Marking.{Marked}
@@ -10,8 +10,6 @@ invariant-loop-clocks g l =
     × (l.clocks ≡ l.machine.core.counts.clocks)
     × (l.initial.machine.core.counts.clocks ≤ l.limit → l.clocks ≤ l.limit)
     × (l.machine.held ≡ l.initial.machine.held)
-    × (length l.retired_slots ≡ 256)
-    × (length l.clock_slots ≡ 256)
     × Marked g.W.Watch.hears l.limit l.initial.machine.core.counts.clocks l.machine.core.counts.clocks (is_stopped l.machine) l.initial.watch l.watch
 
 abbrev pub decreases-loop-clocks : goal.decreases-loop-clocks

@@ -1,14 +1,7 @@
 use Rattle.std.proofs.Common.{[], ◌∷◌, refl}
 use Rattle.pipeline.proofs.machine.Machine.clock.Goals as goal
 
-pub returns-clause-does : goal.returns-clause-does
-returns-clause-does g c =
-    let cycles = rw c.unwrap.ensures at c.checked_cycle.ensures.cycles in
-    let laws = rw c.unwrap.ensures at c.checked_cycle.ensures.laws in (
-      c.unwrap.result ∷ [],
-      (
-        c.in_ok-ready.ensures,
-        (c.unwrap.result, refl, record { same_serial = refl; same_held = refl; cycled = cycles.2; laws = laws }),
-        c.record.ensures.adds,
-      ),
-    )
+pub returns : goal.returns
+returns g c =
+    let t = c.tick.ensures in
+    record { does = (t.0 ∷ [], (c.in_ok-ready.ensures, (t.0, refl, t.1), t.2.logs_so)); slots = t.2.slots }

@@ -44,6 +44,7 @@ fn count(counts: &mut Counts, fetched: bool, retired: bool, gone: u32)
 }
 
 /// The machine stops: W is emptied, and both memories idle.
+#[inline(never)]
 fn halt<P: Predictor, I: Memory, D: Memory>(core: &mut Core<P, I, D>, stop: Stop) -> Event
     requires { core.old.counts.clocks < 4294967295 }
     ensures { Halted P.Predictor.table I.Memory.means D.Memory.means stop core.old result core.new }
@@ -130,6 +131,7 @@ fn advance<P: Predictor, I: Memory, D: Memory>(core: &mut Core<P, I, D>) -> Even
 
 /// One clock: what it does to the core, and what it tells. A core that has stopped or has made all its clocks stays as it
 /// is, and tells nothing.
+#[inline(always)]
 pub fn checked_cycle<P: Predictor, I: Memory, D: Memory>(core: &mut Core<P, I, D>) -> Option<Event>
     ensures cycles { Cycles P.Predictor.table I.Memory.means D.Memory.means core.old result core.new }
     ensures laws { IfSome result (λ e.

@@ -102,8 +102,8 @@ logged l es = record {
 abbrev pub is_stopped : {P I D : Type 0} → Machine P I D → Bool
 is_stopped m = is_some m.core.stopped
 
--- with which number a clock is refused: that of the first test that says no, or 0; who is
--- told of it may be full
+-- with which number a clock is refused: that of the first test that says no, or 0; who is told of it
+-- may be full
 abbrev pub refusal_at : {P I D : Type 0} → Bool → Machine P I D → ℕ
 refusal_at full m =
     if m.held then 4
@@ -163,8 +163,8 @@ Clocks table instructions words l =
 abbrev pub Short : ℕ → ℕ → Type 0
 Short made n = (made < n) ⊎ ((made ≡ 0) × (n ≡ 0))
 
--- How a run of n ends, by the number of its reason, at the machine then reached; who is told of it
--- may then be full.
+-- How a run of n ends, by the number of its reason, at the machine then reached; who is told of it may
+-- then be full.
 -- 0: all were made, and where none were asked for, nothing refused the first test.
 -- Any other: it is short, and just with this number the next clock would be refused.
 abbrev pub EndedAt : {P I D : Type 0} → Bool → Machine P I D → ℕ → ℕ → ℕ → Type 0
@@ -189,8 +189,8 @@ module _ {P I D : Type 0} (table : Table P) (instructions : Meaning I) (words : 
 -- ---- a run that a listener hears
 
 module _ {P I D : Type 0} (table : Table P) (instructions : Meaning I) (words : Meaning D) where
-  -- the clocks es that the call made and the machine p after it; the listener may be full at its
-  -- end, and was not before
+  -- the clocks es that the call made and the machine p after it; the listener may be full at its end,
+  -- and was not before
   abbrev pub RanHeard : Bool → Machine P I D → ℕ → Run → List Event → Machine P I D → Type 0
   RanHeard full m n r es p =
       FreeClocks table instructions words (λ _. false) m r.made es p

@@ -11,7 +11,7 @@ use Rattle.clocking.specs.declared.stage.Flow.{Flow}
 use Rattle.clocking.specs.declared.stage.Flow.TheVariants.{Moves, Stays, RollsBack}
 use Rattle.rv32i.proofs.Laws.{first_not_x0, second_not_x0}
 use Rattle.rv32i.specs.Effects.{first_source, second_source}
-use Rattle.words.specs.Issues.{issued}
+use Rattle.rv32i_words.specs.Issues.{issued}
 use Rattle.rv32i.specs.Registers.{operand}
 use Rattle.rv32i.specs.declared.instruction.Instruction.{Instruction}
 use Rattle.sequential.specs.Sequential.{fetch}

@@ -5,7 +5,7 @@ use Rattle.base.specs.declared.bus.Request.{Request}
 use Rattle.base.specs.declared.bus.Request.TheVariants.{Read, Write}
 use Rattle.rv32i.proofs.Laws.{NotX0}
 use Rattle.rv32i.specs.Effects.{load_width, store_width, word_address, lanes_of, request}
-use Rattle.words.specs.Issues.{issued}
+use Rattle.rv32i_words.specs.Issues.{issued}
 use Rattle.rv32i.specs.declared.cause.Cause.TheVariants.{LoadMisaligned, LoadOutside, StoreMisaligned, StoreOutside}
 use Rattle.rv32i.specs.Registers.{operand, written}
 use Rattle.rv32i.specs.declared.cause.Cause.{Cause}

@@ -15,8 +15,8 @@ use Rattle.rv32i.specs.declared.instruction.Instruction.{Instruction}
 use Rattle.rv32i.specs.declared.instruction.Instruction.TheVariants.{Lui, Auipc, Jal, Jalr, Branch, Load, Store, Immediate, Shift, Register as Arithmetic, Fence, Ecall, Ebreak}
 use Rattle.rv32i.specs.declared.register.Register.{Register}
 use Rattle.rv32i.specs.declared.registers.Registers.{Registers}
-use Rattle.words.specs.Issues.{issues, issued}
-use Rattle.words.specs.Words.{decoded}
+use Rattle.rv32i_words.specs.Issues.{issues, issued}
+use Rattle.rv32i_words.specs.Words.{decoded}
 use Rattle.sequential.specs.declared.record.Stop.{Stop}
 use Rattle.clocking.specs.Clock.{stop_of, retirement_of, completes, executes, reads, decodes, plans, fetches, latches_after, move_notes, Moved, Halted, Worked, Cycled}
 use Rattle.clocking.specs.Counting.{has_fetched, dropped, one_if, Counted, is_wait, stays, moves, rolls_back}

@@ -14,8 +14,8 @@ use Rattle.rv32i.specs.declared.effect.Effect.{Effect}
 use Rattle.rv32i.specs.declared.instruction.Instruction.{Instruction}
 use Rattle.rv32i.specs.declared.instruction.Instruction.TheVariants.{Jal, Branch}
 use Rattle.rv32i.specs.declared.register.Register.{Register}
-use Rattle.words.specs.Issues.{issued}
-use Rattle.words.specs.Words.{decoded}
+use Rattle.rv32i_words.specs.Issues.{issued}
+use Rattle.rv32i_words.specs.Words.{decoded}
 use Rattle.sequential.specs.declared.record.Stop.{Stop}
 use Rattle.clocking.specs.Clock.{stop_of}
 use Rattle.clocking.specs.Counting.{is_wait}

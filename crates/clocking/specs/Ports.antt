@@ -6,7 +6,7 @@ use Rattle.memory.specs.Meaning.{Meaning}
 use Rattle.memory.specs.Meaning.{Reply}
 use Rattle.memory.specs.declared.Answer.TheVariants.{Word}
 use Rattle.rv32i.specs.Effects.{following}
-use Rattle.words.specs.Issues.{issued}
+use Rattle.rv32i_words.specs.Issues.{issued}
 use Rattle.rv32i.specs.Targets.{target_of}
 use Rattle.rv32i.specs.declared.cause.Cause.{Cause}
 use Rattle.rv32i.specs.declared.instruction.Instruction.{Instruction}

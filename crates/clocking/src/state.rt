@@ -5,7 +5,7 @@ use memory::Memory;
 use predictor::Predictor;
 use rv32i::registers::Registers;
 use sequential::record::{Retirement, Stop};
-use words::memo::Memo;
+use rv32i_words::memo::Memo;
 
 /// The registers, the latches and the counts, with the words that are remembered, the predictor and the two memories.
 #[derive(Drop)]

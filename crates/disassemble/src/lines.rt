@@ -1,9 +1,9 @@
 //! Words and their lines of assembly.
-use assembly::text::AssemblyText;
+use rv32i_text::text::AssemblyText;
 use std::alloc::{AllocError, Global};
 use std::fmt;
 use vectors::image::hexadecimal;
-use words::decoding::decode;
+use rv32i_words::decoding::decode;
 
 /// A word's line: the word as it was given, and its instruction or `illegal`.
 #[derive(Clone, Copy)]

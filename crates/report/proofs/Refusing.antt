@@ -7,8 +7,8 @@ use Rattle.base.specs.declared.failure.Failure.{Failure}
 use Rattle.base.specs.declared.failure.Failure.TheVariants.{Refused, OutOfMemory}
 use Rattle.memory.specs.Flat.{flat_fits}
 use Rattle.pipeline.specs.Calls.{load_fits}
-use Rattle.choice.specs.Predictors.{chosen_table}
-use Rattle.choice.specs.Stacks.{layers_fit, ChosenMemory, chosen_means, ChosenAnswer}
+use Rattle.dispatch.specs.Predictors.{chosen_table}
+use Rattle.dispatch.specs.Stacks.{layers_fit, ChosenMemory, chosen_means, ChosenAnswer}
 use Rattle.setup.specs.declared.choice.Setup.{Setup}
 use Rattle.report.specs.Timings.{Guesser, Shown, Assembled, Timed, DataAnswer, AssemblyAnswer, refusal_of}
 use Rattle.report.specs.declared.lines.Longest.{Longest}

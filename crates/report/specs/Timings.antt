@@ -22,10 +22,10 @@ use Rattle.longrun.specs.Gaps.{none_yet, gaps_after}
 use Rattle.longrun.specs.declared.gaps.Gaps.{Gaps}
 use Rattle.setup.specs.declared.choice.Setup.{Setup}
 use Rattle.setup.specs.declared.choice.StackChoice.{StackChoice}
-use Rattle.choice.specs.Predictors.{chosen_table, chosen_fresh}
-use Rattle.choice.specs.Stacks.{stack_wait, layers_fit, ChosenMemory, chosen_means, Chosen as ChosenFor}
-use Rattle.choice.specs.declared.predictors.Chosen.{Chosen}
-use Rattle.choice.specs.declared.predictors.Simple.{Simple}
+use Rattle.dispatch.specs.Predictors.{chosen_table, chosen_fresh}
+use Rattle.dispatch.specs.Stacks.{stack_wait, layers_fit, ChosenMemory, chosen_means, Chosen as ChosenFor}
+use Rattle.dispatch.specs.declared.predictors.Chosen.{Chosen}
+use Rattle.dispatch.specs.declared.predictors.Simple.{Simple}
 use Rattle.report.specs.Finishing.{Finished}
 use Rattle.report.specs.Lines.{report_text}
 use Rattle.report.specs.declared.lines.Longest.{Longest}

@@ -5,7 +5,7 @@ use Rattle.memory.specs.Meaning.{View, Same}
 use Rattle.rv32i.proofs.Given.{same_cause, given}
 use Rattle.rv32i.specs.Causes.{Gives}
 use Rattle.rv32i.specs.Effects.{executed, access, request}
-use Rattle.words.specs.Issues.{issued}
+use Rattle.rv32i_words.specs.Issues.{issued}
 use Rattle.rv32i.specs.declared.cause.Cause.{Cause}
 use Rattle.rv32i.specs.declared.effect.Effect.{Effect}
 use Rattle.rv32i.specs.declared.instruction.Instruction.{Instruction}

@@ -4,7 +4,7 @@ use Rattle.base.specs.Bytes.{word, put}
 use Rattle.base.specs.declared.bus.Request.{Request}
 use Rattle.base.specs.declared.bus.Request.TheVariants.{Read, Write}
 use Rattle.rv32i.specs.Effects.{first_source, second_source, destination, executed, access, request, loaded}
-use Rattle.words.specs.Issues.{issued}
+use Rattle.rv32i_words.specs.Issues.{issued}
 use Rattle.rv32i.specs.Registers.{operand, written}
 use Rattle.rv32i.specs.declared.cause.Cause.{Cause}
 use Rattle.rv32i.specs.declared.cause.Cause.TheVariants.{JumpMisaligned, FetchOutside}

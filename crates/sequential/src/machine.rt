@@ -14,7 +14,7 @@ use memory::{Answer, Memory, Reply, byte_at, insist};
 use rv32i::cause::Cause;
 use rv32i::effect::{Access, loaded, request};
 use rv32i::registers::Registers;
-use words::decoding::issue;
+use rv32i_words::decoding::issue;
 
 /// The sequential machine over an image and a data memory. Where a memory waits, it is asked again until it does not.
 #[derive(Drop)]

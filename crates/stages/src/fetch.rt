@@ -13,8 +13,8 @@ use memory::{Memory, Unserved};
 use ports::asking::guess;
 use predictor::Predictor;
 use rv32i::cause::Cause;
+use rv32i_words::memo::Memo;
 use sequential::record::Stop;
-use words::memo::Memo;
 
 /// What became of a fetch: whether an instruction was put into D, and whether the instruction memory said Wait.
 #[derive(Clone, Copy)]

@@ -1,5 +1,5 @@
 //! Words beside their lines of assembly, worked out from the formats in the manual.
-use assembly::assembly;
+use rv32i_text::assembly;
 use base::refusal::Refusal;
 use rv32i::effect::arithmetic;
 use rv32i::instruction::{
@@ -7,8 +7,8 @@ use rv32i::instruction::{
 };
 use rv32i::register::Register;
 use std::test::Fail;
-use words::decoding::decode;
-use words::encoding::encode;
+use rv32i_words::decoding::decode;
+use rv32i_words::encoding::encode;
 
 /// Each of the forty, with the ends of the ranges and the bits of the immediates that stand apart.
 const LINES: [(u32, &str); 47] = [

@@ -9,7 +9,7 @@ use Rattle.wait_states.specs.WaitStates.{wait_means}
 use Rattle.write_buffer.specs.WriteBuffer.{buffer_means}
 use Rattle.predictor.specs.Counting.{fresh, counted, stepped, number_of}
 use Rattle.predictor.specs.Tables.{taught}
-use Rattle.words.specs.Words.{decoded}
+use Rattle.rv32i_words.specs.Words.{decoded}
 use Rattle.worked.specs.Examples.{words, instructions, counts, counts_of, taken, longest, TableGiven}
 
 -- a counter that is counted has the stepped value, and the counters stay as many

@@ -10,7 +10,7 @@ use Rattle.base.specs.declared.branch.Outcome.{Outcome}
 use Rattle.predictor.specs.Counting.{fresh, value_at, number_of}
 use Rattle.predictor.specs.Tables.{taught}
 use Rattle.rv32i.specs.Registers.{register}
-use Rattle.words.specs.Words.{decoded}
+use Rattle.rv32i_words.specs.Words.{decoded}
 use Rattle.rv32i.specs.declared.instruction.Condition.TheVariants.{Ne}
 use Rattle.rv32i.specs.declared.instruction.ImmediateOp.TheVariants.{Add}
 use Rattle.rv32i.specs.declared.instruction.Instruction.{Instruction}

@@ -13,7 +13,7 @@ use predictor::Predictor;
 use predictor::bimodal::Bimodal;
 use rv32i::instruction::Instruction;
 use wait_states::WaitStates;
-use words::decoding::decode;
+use rv32i_words::decoding::decode;
 use write_buffer::WriteBuffer;
 
 /// What the worked examples come to.

@@ -12,7 +12,7 @@ use clocking::state::Core;
 use memory::{Memory, is_within};
 use predictor::Predictor;
 use rv32i::registers::Registers;
-use words::memo::Memo;
+use rv32i_words::memo::Memo;
 
 /// Whether a machine can be loaded so; refused where the serial is above 65535, or the start no multiple of 4 or outside the
 /// instruction memory.

@@ -3,8 +3,8 @@ ghost use Rattle.report.specs.Timings.{DataAnswer, AssemblyAnswer};
 
 use crate::lines::Longest;
 use base::failure::Failure;
-use choice::predictors::Chosen;
-use choice::stack::{ChosenMemory, choose};
+use dispatch::predictors::Chosen;
+use dispatch::stack::{ChosenMemory, choose};
 use listing::image::PaddedImage;
 use memory::{Flat, Memory};
 use pipeline::machine::{Machine, check, load};

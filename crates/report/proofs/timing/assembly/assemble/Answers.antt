@@ -2,7 +2,7 @@ use Rattle.std.proofs.Common.{◌≡◌, ℕ, length, vec_items, vec_len, sym, r
 use Rattle.std.proofs.lemmas.Bool.{and_parts}
 use Rattle.memory.specs.Flat.{flat_fits}
 use Rattle.pipeline.specs.Calls.{load_fits}
-use Rattle.choice.specs.Stacks.{layers_fit, chosen_means}
+use Rattle.dispatch.specs.Stacks.{layers_fit, chosen_means}
 use Rattle.report.proofs.Refusing.{sound_setup}
 use Rattle.report.proofs.timing.assembly.assemble.Goals as goal
 

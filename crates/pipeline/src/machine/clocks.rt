@@ -8,7 +8,7 @@ use crate::journal::Journal;
 use crate::listener::Listener;
 use crate::machine::{Machine, Run};
 use base::refusal::Refusal;
-use cycle::checked_cycle;
+use clock::cycle::checked_cycle;
 use memory::Memory;
 use predictor::Predictor;
 

@@ -8,7 +8,7 @@ use crate::machine::{Machine, Totals};
 use base::refusal::Refusal;
 use clocking::latch::Latches;
 use memory::{Memory, byte_at};
-use ports::counting::in_flight;
+use clock::counts::in_flight;
 use predictor::Predictor;
 use sequential::record::Stop;
 

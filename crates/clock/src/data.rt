@@ -1,0 +1,110 @@
+//! The data stage: M goes to W, with the data memory's answer.
+ghost use Rattle.std.specs.Prelude.{◌≡◌, Some};
+ghost use Rattle.memory.specs.Meaning.{of_read, of_write};
+ghost use Rattle.clocking.specs.Stages.{answered, completes_with};
+ghost use Rattle.clocking.specs.declared.latch.Latch.TheVariants.{Empty};
+ghost use Rattle.clocking.specs.declared.stage.Flow.TheVariants.{Stays};
+ghost use Rattle.clock.specs.Data.{DataDone};
+
+use base::bus::Request;
+use clocking::latch::{Completed, Executed, Latch};
+use clocking::stage::Flow;
+use memory::{Memory, Unserved};
+use rv32i::effect::{loaded, request};
+use sequential::record::Stop;
+
+/// An instruction goes to W with its value.
+#[inline(always)]
+fn complete(e: &Executed, value: u32, w: &mut Latch<Completed>) -> Flow
+    ensures w { w.new ≡ (completes_with e.now value).w }
+    ensures flow { result ≡ (completes_with e.now value).flow }
+{
+    *w = Latch::Full(Completed {
+        address: e.address,
+        word: e.word,
+        rd: e.rd,
+        value,
+        outcome: e.outcome,
+    });
+    Flow::Moves
+}
+
+/// What became of M while the memory says Wait.
+#[inline(always)]
+fn wait(w: &mut Latch<Completed>) -> Flow
+    ensures w { w.new ≡ Empty }
+    ensures flow { result ≡ Stays }
+{
+    *w = Latch::Empty;
+    Flow::Stays
+}
+
+/// What became of M by the answer to its read.
+#[inline(always)]
+fn after_read(e: &Executed, answer: Result<u32, Unserved>, w: &mut Latch<Completed>) -> Flow
+    ensures w { w.new ≡ (answered e.now (Some (of_read answer))).w }
+    ensures flow { result ≡ (answered e.now (Some (of_read answer))).flow }
+{
+    match answer {
+        Ok(word) => complete(e, loaded(e.access, e.result, word), w),
+        Err(Unserved::Wait) => wait(w),
+        Err(Unserved::Outside) => complete(e, e.result, w),
+    }
+}
+
+/// What became of M by the answer to its write.
+#[inline(always)]
+fn after_write(e: &Executed, answer: Result<(), Unserved>, w: &mut Latch<Completed>) -> Flow
+    ensures w { w.new ≡ (answered e.now (Some (of_write answer))).w }
+    ensures flow { result ≡ (answered e.now (Some (of_write answer))).flow }
+{
+    match answer {
+        Err(Unserved::Wait) => wait(w),
+        Ok(()) | Err(Unserved::Outside) => complete(e, e.result, w),
+    }
+}
+
+/// A cause goes to W and rolls back; M waits while the memory does; all else goes to W. The memory is asked what M asks, or
+/// passes the clock idle.
+#[inline(always)]
+#[tactic(auto, using(crate::proofs::DataAsked::data_idle, crate::proofs::DataAsked::data_refused, crate::proofs::DataAsked::data_free, crate::proofs::DataAsked::data_asked))]
+pub fn data_stage<D: Memory>(data: &mut D, m: &Latch<Executed>, w: &mut Latch<Completed>) -> Flow
+    ensures { DataDone D.Memory.means m.now «data».old «data».new w.new result }
+{
+    match m {
+        Latch::Empty => {
+            data.idle();
+            *w = Latch::Empty;
+            Flow::Moves
+        }
+        Latch::Faulting(stop) => {
+            data.idle();
+            *w = Latch::Faulting(*stop);
+            Flow::RollsBack
+        }
+        Latch::Full(e) => match request(data.size(), e.access, e.result, e.b) {
+            Err(cause) => {
+                data.idle();
+                *w = Latch::Faulting(Stop {
+                    address: e.address,
+                    cause,
+                });
+                Flow::RollsBack
+            }
+            Ok(None) => {
+                data.idle();
+                complete(e, e.result, w)
+            }
+            Ok(Some(Request::Read { address })) => after_read(e, data.read(address), w),
+            Ok(
+                Some(
+                    Request::Write {
+                        address,
+                        word,
+                        lanes,
+                    },
+                ),
+            ) => after_write(e, data.write(address, word, lanes), w),
+        },
+    }
+}

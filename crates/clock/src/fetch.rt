@@ -1,0 +1,130 @@
+//! The fetch stage: the word at F goes to D, and F on to the guess.
+ghost use Rattle.std.specs.Prelude.{◌≡◌, Some, is_some};
+ghost use Rattle.memory.specs.Meaning.{of_read};
+ghost use Rattle.rv32i.specs.Causes.{Gives};
+ghost use Rattle.clocking.specs.Counting.{is_wait};
+ghost use Rattle.clocking.specs.Ports.{arrival};
+ghost use Rattle.clocking.specs.Stages.{placed};
+ghost use Rattle.clock.specs.Fetch.{fetchable, FetchDone};
+
+use crate::prediction::guess;
+use clocking::latch::{Fetched, Latch};
+use clocking::stage::Flow;
+use memory::{Memory, Unserved};
+use predictor::Predictor;
+use rv32i::cause::Cause;
+use rv32i_words::memo::Memo;
+use sequential::record::Stop;
+
+/// What became of a fetch: whether an instruction was put into D, and whether the instruction memory said Wait.
+#[derive(Clone, Copy)]
+pub struct Fetching {
+    pub fetched: bool,
+    pub waits: bool,
+}
+
+impl Fetching {
+    /// Nothing was put into D, and nothing waits.
+    const NONE: Fetching = Fetching {
+        fetched: false,
+        waits: false,
+    };
+}
+
+/// Whether a word can be fetched at F, or the cause that F has, in an instruction memory of that size.
+#[inline(always)]
+fn fetchable(size: u32, f: u32) -> Result<(), Cause>
+    ensures { Gives (fetchable size f) result }
+{
+    if f % 4 != 0 {
+        Err(Cause::JumpMisaligned)
+    } else if f >= size {
+        Err(Cause::FetchOutside)
+    } else {
+        Ok(())
+    }
+}
+
+/// What the memory answered goes into D with what it issues, and F on to its guess.
+#[inline(always)]
+fn place<P: Predictor>(
+    answer: Result<u32, Unserved>,
+    predictor: &P,
+    memo: &mut Memo,
+    f: &mut u32,
+    d: &mut Latch<Fetched>,
+) -> Fetching
+    ensures f { f.new ≡ (placed f.old (arrival P.Predictor.table predictor.now f.old (Some (of_read answer)))).f }
+    ensures d { d.new ≡ (placed f.old (arrival P.Predictor.table predictor.now f.old (Some (of_read answer)))).d }
+    ensures fetched { result.fetched ≡ is_some (arrival P.Predictor.table predictor.now f.old (Some (of_read answer))) }
+    ensures waits { result.waits ≡ is_wait (Some (of_read answer)) }
+{
+    match answer {
+        Ok(word) => {
+            let address = *f;
+            let issued = memo.issue(address, word);
+            let goes_on = guess(predictor, address, &issued);
+            *d = Latch::Full(Fetched {
+                address,
+                word,
+                issued,
+                guess: goes_on,
+            });
+            *f = goes_on;
+            Fetching {
+                fetched: true,
+                waits: false,
+            }
+        }
+        Err(why) => {
+            *d = Latch::Empty;
+            Fetching {
+                fetched: false,
+                waits: why == Unserved::Wait,
+            }
+        }
+    }
+}
+
+/// After a rollback D is empty, and F is where the redirect says; while D stays, so does F; else what arrives goes into D,
+/// and F on to its guess. The memory is asked for the word at F, or passes the clock idle.
+#[inline(always)]
+#[tactic(auto, using(crate::proofs::FetchAsked::fetch_passes, crate::proofs::FetchAsked::fetch_refused, crate::proofs::FetchAsked::fetch_asked))]
+pub fn fetch_stage<P: Predictor, I: Memory>(
+    flow: Flow,
+    redirect: Option<u32>,
+    predictor: &P,
+    instructions: &mut I,
+    memo: &mut Memo,
+    f: &mut u32,
+    d: &mut Latch<Fetched>,
+) -> Fetching
+    ensures { FetchDone P.Predictor.table I.Memory.means predictor.now f.old d.old flow redirect instructions.old instructions.new (record { f = f.new; d = d.new }) result }
+{
+    match flow {
+        Flow::RollsBack => {
+            instructions.idle();
+            *d = Latch::Empty;
+            if let Some(next) = redirect {
+                *f = next;
+            }
+            Fetching::NONE
+        }
+        Flow::Stays => {
+            instructions.idle();
+            Fetching::NONE
+        }
+        Flow::Moves => match fetchable(instructions.size(), *f) {
+            Err(cause) => {
+                instructions.idle();
+                *d = Latch::Faulting(Stop { address: *f, cause });
+                *f = f.wrapping_add(4);
+                Fetching {
+                    fetched: true,
+                    waits: false,
+                }
+            }
+            Ok(()) => place(instructions.read(*f), predictor, memo, f, d),
+        },
+    }
+}

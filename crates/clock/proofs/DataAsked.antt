@@ -6,7 +6,8 @@ use Rattle.rv32i.specs.Causes.{Gives}
 use Rattle.rv32i.specs.Effects.{request}
 use Rattle.rv32i.specs.declared.cause.Cause.{Cause}
 use Rattle.rv32i.proofs.Given.{given}
-use Rattle.clocking.specs.Stages.{data_request, sent, data_stage, completes_with, answered}
+use Rattle.clocking.specs.Ports.{sent}
+use Rattle.clocking.specs.Data.{data_request, data_stage, completes_with, answered}
 use Rattle.clocking.specs.declared.latch.Completed.{Completed}
 use Rattle.clocking.specs.declared.latch.Executed.{Executed}
 use Rattle.clocking.specs.declared.latch.Latch.{Latch}

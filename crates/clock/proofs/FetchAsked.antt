@@ -11,7 +11,7 @@ use Rattle.rv32i.specs.declared.cause.Cause.TheVariants.{JumpMisaligned, FetchOu
 use Rattle.rv32i.proofs.Given.{given}
 use Rattle.clocking.specs.Counting.{is_wait}
 use Rattle.clocking.specs.Ports.{Table, arrival}
-use Rattle.clocking.specs.Stages.{FetchOut, fetching, placed, fetch_stage}
+use Rattle.clocking.specs.Fetch.{FetchOut, fetching, placed, fetch_stage}
 use Rattle.clocking.specs.declared.latch.Fetched.{Fetched}
 use Rattle.clocking.specs.declared.latch.Latch.{Latch}
 use Rattle.clocking.specs.declared.latch.Latch.TheVariants.{Faulting}

@@ -3,7 +3,7 @@ use Rattle.std.proofs.Common.{◌≡◌, Some, Option, refl}
 use mathlib.Core.Path.{fun_ext}
 use Rattle.rv32i.specs.declared.register.Register.{Register}
 use Rattle.rv32i.specs.declared.registers.Registers.{Registers}
-use Rattle.clocking.specs.Stages.{values_in_flight, from_m, from_w, arrived}
+use Rattle.clocking.specs.Decode.{values_in_flight, from_m, from_w, arrived}
 use Rattle.clocking.specs.declared.latch.Completed.{Completed}
 use Rattle.clocking.specs.declared.latch.Executed.{Executed}
 use Rattle.clocking.specs.declared.latch.Latch.{Latch}

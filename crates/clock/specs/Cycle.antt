@@ -4,7 +4,8 @@ use Rattle.memory.specs.Meaning.{Meaning}
 use Rattle.rv32i.specs.declared.registers.Registers.{Registers}
 use Rattle.clocking.specs.Clock.{Cycled}
 use Rattle.clocking.specs.Ports.{Table}
-use Rattle.clocking.specs.Stages.{DecodeOut, decode_stage, values_in_flight, x_result}
+use Rattle.clocking.specs.Execute.{x_result}
+use Rattle.clocking.specs.Decode.{DecodeOut, decode_stage, values_in_flight}
 use Rattle.clocking.specs.declared.latch.Completed.{Completed}
 use Rattle.clocking.specs.declared.latch.Decoded.{Decoded}
 use Rattle.clocking.specs.declared.latch.Executed.{Executed}

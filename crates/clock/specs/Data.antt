@@ -1,8 +1,8 @@
 -- The data stage with its memory. Assumes nothing.
 use Rattle.std.specs.Prelude.{◌≡◌, Option}
 use Rattle.memory.specs.Meaning.{Meaning, Reply}
-use Rattle.clocking.specs.Ports.{Asked}
-use Rattle.clocking.specs.Stages.{data_request, sent, data_stage}
+use Rattle.clocking.specs.Ports.{Asked, sent}
+use Rattle.clocking.specs.Data.{data_request, data_stage}
 use Rattle.clocking.specs.declared.latch.Completed.{Completed}
 use Rattle.clocking.specs.declared.latch.Executed.{Executed}
 use Rattle.clocking.specs.declared.latch.Latch.{Latch}

@@ -2,7 +2,8 @@
 use Rattle.std.specs.Prelude.{ℕ, Some, None, Option, if◌then◌else◌}
 use Rattle.rv32i.specs.declared.register.Register.{Register}
 use Rattle.rv32i.specs.declared.registers.Registers.{Registers}
-use Rattle.clocking.specs.Stages.{gives, from_x, arrived, or_else, value_of, x_result}
+use Rattle.clocking.specs.Execute.{x_result}
+use Rattle.clocking.specs.Decode.{gives, from_x, arrived, or_else, value_of}
 use Rattle.clocking.specs.declared.latch.Completed.{Completed}
 use Rattle.clocking.specs.declared.latch.Executed.{Executed}
 use Rattle.clocking.specs.declared.latch.Latch.{Latch}

@@ -4,8 +4,8 @@ use Rattle.memory.specs.Meaning.{Meaning, Reply}
 use Rattle.rv32i.specs.declared.cause.Cause.{Cause}
 use Rattle.rv32i.specs.declared.cause.Cause.TheVariants.{JumpMisaligned, FetchOutside}
 use Rattle.clocking.specs.Counting.{has_fetched, is_wait}
-use Rattle.clocking.specs.Ports.{Table, Asked, arrival}
-use Rattle.clocking.specs.Stages.{FetchOut, sent, fetching, fetch_stage}
+use Rattle.clocking.specs.Ports.{Table, Asked, arrival, sent}
+use Rattle.clocking.specs.Fetch.{FetchOut, fetching, fetch_stage}
 use Rattle.clocking.specs.declared.latch.Fetched.{Fetched}
 use Rattle.clocking.specs.declared.latch.Latch.{Latch}
 use Rattle.clocking.specs.declared.stage.Flow.{Flow}

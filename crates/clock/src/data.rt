@@ -1,7 +1,7 @@
 //! The data stage: M goes to W, with the data memory's answer.
 ghost use Rattle.std.specs.Prelude.{◌≡◌, Some};
 ghost use Rattle.memory.specs.Meaning.{of_read, of_write};
-ghost use Rattle.clocking.specs.Stages.{answered, completes_with};
+ghost use Rattle.clocking.specs.Data.{answered, completes_with};
 ghost use Rattle.clocking.specs.declared.latch.Latch.TheVariants.{Empty};
 ghost use Rattle.clocking.specs.declared.stage.Flow.TheVariants.{Stays};
 ghost use Rattle.clock.specs.Data.{DataDone};

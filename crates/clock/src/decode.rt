@@ -1,6 +1,6 @@
 //! The decode stage: D goes to X, with its operands.
 ghost use Rattle.std.specs.Prelude.{◌≡◌};
-ghost use Rattle.clocking.specs.Stages.{early, arrived, source, with_operands, decode_stage};
+ghost use Rattle.clocking.specs.Decode.{early, arrived, source, with_operands, decode_stage};
 ghost use Rattle.clock.specs.Decode.{rd_of, written_of, values};
 
 use crate::execute::held_up;

@@ -1,7 +1,7 @@
 //! The execute stage: X goes to M, computed.
 ghost use Rattle.std.specs.Prelude.{◌≡◌, None};
 ghost use Rattle.rv32i.specs.Causes.{Gives};
-ghost use Rattle.clocking.specs.Stages.{execute, execute_stage, held_up};
+ghost use Rattle.clocking.specs.Execute.{execute, execute_stage, held_up};
 
 use clocking::latch::{Decoded, Executed, Latch};
 use clocking::stage::Flow;

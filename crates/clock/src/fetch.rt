@@ -4,7 +4,7 @@ ghost use Rattle.memory.specs.Meaning.{of_read};
 ghost use Rattle.rv32i.specs.Causes.{Gives};
 ghost use Rattle.clocking.specs.Counting.{is_wait};
 ghost use Rattle.clocking.specs.Ports.{arrival};
-ghost use Rattle.clocking.specs.Stages.{placed};
+ghost use Rattle.clocking.specs.Fetch.{placed};
 ghost use Rattle.clock.specs.Fetch.{fetchable, FetchDone};
 
 use crate::prediction::guess;

@@ -1,6 +1,6 @@
 //! Write-back: W stops the machine or retires.
 ghost use Rattle.std.specs.Prelude.{◌≡◌};
-ghost use Rattle.clocking.specs.Clock.{stop_of, retirement_of, outcome_of, written_back};
+ghost use Rattle.clocking.specs.WriteBack.{stop_of, retirement_of, outcome_of, written_back};
 
 use base::branch::Outcome;
 use clocking::latch::{Completed, Latch};

@@ -1,23 +1,20 @@
 -- Every clock keeps the agreement with the sequential machine. Assumes nothing.
-use Rattle.std.proofs.Common.{◌≡◌, ℕ, ◌+◌, ◌-◌, ◌%◌, ◌<◌, ◌≤◌, Bool, true, false, cond, eqb, ltb, List, [], ◌∷◌, ◌++◌, length, is_some, Some, None, Ok, Err, Option, sym, refl, ap, ◌∙◌, subst, append-nil, arith}
+use Rattle.std.proofs.Common.{◌≡◌, ℕ, ◌+◌, ◌-◌, ◌<◌, ◌≤◌, Bool, true, false, cond, List, [], ◌∷◌, ◌++◌, length, is_some, Some, None, Ok, Option, sym, refl, ap, ◌∙◌, subst, append-nil, arith}
 use Rattle.std.proofs.Math.Bool.{or-false}
 use mathlib.Core.Path.{fun_ext}
 use Rattle.base.specs.declared.bus.Request.{Request}
-use Rattle.base.specs.declared.bus.Request.TheVariants.{Read}
 use Rattle.memory.specs.Meaning.{Meaning, Lawful}
 use Rattle.memory.specs.Meaning.{Reply}
-use Rattle.memory.specs.declared.Answer.TheVariants.{Word}
-use Rattle.memory.specs.declared.Unserved.TheVariants.{Wait, Outside}
 use Rattle.rv32i.specs.declared.registers.Registers.{Registers}
-use Rattle.sequential.specs.Runs.{Steps, none, more}
+use Rattle.sequential.specs.Runs.{Steps, none}
 use Rattle.sequential.specs.Sequential.{State, World}
-use Rattle.sequential.specs.declared.record.Retirement.{Retirement}
 use Rattle.sequential.specs.declared.record.Stop.{Stop}
-use Rattle.clocking.specs.Agreement.{listed, retirements, productive, world_of, state_of, StopsSo, BytesSo, Accounted, Agreement}
-use Rattle.clocking.specs.Clock.{stop_of, retirement_of, outcome_of, written_back, completes, executes, decodes, plans, latches_after, Moved, Halted, Worked, Cycled}
-use Rattle.clocking.specs.Counting.{in_flight_count, occupied, has_fetched, dropped, one_if, Counted}
-use Rattle.clocking.specs.Ports.{Table, Taught, arrival}
-use Rattle.clocking.specs.Stages.{data_request, sent, fetching}
+use Rattle.clocking.specs.Agreement.{retirements, productive, world_of, state_of, StopsSo, BytesSo, Accounted, Agreement}
+use Rattle.clocking.specs.Clock.{completes, executes, decodes, plans, latches_after, Moved, Halted, Worked, Cycled}
+use Rattle.clocking.specs.WriteBack.{stop_of, retirement_of, outcome_of, written_back}
+use Rattle.clocking.specs.Counting.{in_flight_count, occupied, has_fetched, dropped, Counted}
+use Rattle.clocking.specs.Ports.{Table, Taught, arrival, sent}
+use Rattle.clocking.specs.Data.{data_request}
 use Rattle.clocking.specs.declared.state.Core.{Core}
 use Rattle.clocking.specs.declared.state.Event.{Event}
 use Rattle.clocking.specs.declared.latch.Completed.{Completed}
@@ -25,67 +22,17 @@ use Rattle.clocking.specs.declared.latch.Fetched.{Fetched}
 use Rattle.clocking.specs.declared.latch.Latch.{Latch}
 use Rattle.clocking.specs.declared.latch.Latch.TheVariants.{Empty, Faulting, Full}
 use Rattle.clocking.specs.declared.latch.Latches.{Latches}
-use Rattle.clocking.specs.declared.stage.Flow.{Flow}
-use Rattle.clocking.specs.declared.stage.Flow.TheVariants.{Moves}
 use Rattle.clocking.proofs.Balance.{clock_balance, dropped_most}
-use Rattle.clocking.proofs.Chain.{Flows, Reach, Chain, HoldsW, behindW, bytes_at}
+use Rattle.clocking.proofs.Chain.{Flows, Chain, HoldsW}
 use Rattle.clocking.proofs.Countdown.{count, Lulled, Down, down, lulls, least_one, at_first}
-use Rattle.clocking.proofs.Data.{idle_same}
-use Rattle.clocking.proofs.Fetch.{asked_if, Arrives}
-use Rattle.clocking.proofs.Forward.{Pairs, pairs}
+use Rattle.clocking.proofs.Fetch.{arrives_so, text_kept}
 use Rattle.clocking.proofs.Histories.{retirements_more, length_more, retired_more, taught_more}
-use Rattle.clocking.proofs.Keeps.{Retires, clock_keeps}
+use Rattle.clocking.proofs.Keeps.{clock_keeps}
+use Rattle.clocking.proofs.WriteBack.{Retires, stepped, bytes_from, flows_if, faulting_if, retires_count}
 use Rattle.clocking.proofs.Link.{link, Worn}
 use Rattle.clocking.proofs.Pace.{left, Paced, paced_more, left_more, soon, soon_after, retires_productive}
-use Rattle.clocking.proofs.Partial.{completed_at, after_at, retires_as, step_completes, step_stops}
+use Rattle.clocking.proofs.Partial.{step_stops}
 use Rattle.clocking.proofs.Served.{Bytes}
-
-arrives_so : {P : Type 0} (table : Table P) (p : P) (f : ℕ) (a : Option Reply) → Arrives f a (arrival table p f a)
-arrives_so table p f (Some (Ok (Word w))) = (refl, refl, refl)
-arrives_so table p f a = tt
-
--- reading does not change the bytes
-read_same : (size f : ℕ) (a : Option Reply) (u v : ℕ → ℕ) → Bytes size (Some (Read f)) a u v → v ≡ u
-read_same size f (Some (Ok (Word w))) u v h = h.2
-read_same size f (Some (Err Wait)) u v h = h
-read_same size f (Some (Err Outside)) u v h = h.1
-read_same size f a u v h = absurd h
-
-asked_kept : (size f : ℕ) (b d : Bool) (a : Option Reply) (u v : ℕ → ℕ) → Bytes size (sent (asked_if f b d)) a u v → v ≡ u
-asked_kept size f true true a u v h = read_same size f a u v h
-asked_kept size f b d a u v h = idle_same size a u v h
-
-text_kept : (size f : ℕ) (flow : Flow) (a : Option Reply) (u v : ℕ → ℕ) → Bytes size (sent (fetching size f flow)) a u v → v ≡ u
-text_kept size f Moves a u v h = asked_kept size f (eqb (f % 4) 0) (ltb f size) a u v h
-text_kept size f flow a u v h = idle_same size a u v h
-
--- ---- what retires is a step of the sequential machine
-
-stepped : (world : World) (start s t : State) (w : Latch Completed) (rs : List Retirement) → Steps world start rs s → Retires world s w t → Steps world start (rs ++ listed (retirement_of w)) t
-stepped world start s t Empty rs k r = rw (append-nil, r) k
-stepped world start s t (Faulting stop) rs k r = absurd r
-stepped world start s t (Full c) rs k r = more (record { retirement = retires_as c; after = t }) k (step_completes world s c t r.0 r.1)
-
-bytes_by : (world : World) (s : State) (c : Completed) (bytes : ℕ → ℕ) (r : Reach) → Ok c ≡ completed_at world s → after_at world s ≡ r → Pairs s (Ok c) r → bytes ≡ bytes_at s r → BytesSo world s (Full c) bytes
-bytes_by world s c bytes (Err z) e i p h = absurd p
-bytes_by world s c bytes (Ok t) e i p h = (record { retirement = retires_as c; after = t }, step_completes world s c t (sym e) i, h)
-
-bytes_from : (world : World) (s : State) (bytes : ℕ → ℕ) (w : Latch Completed) → HoldsW world (Ok s) w → bytes ≡ bytes_at s (behindW world (Ok s) w) → BytesSo world s w bytes
-bytes_from world s bytes (Full c) h e = bytes_by world s c bytes (after_at world s) h refl (rw h (pairs world s)) e
-bytes_from world s bytes w h e = e
-
--- W as what it stops with, or not at all
-flows_if : (w : Latch Completed) → stop_of w ≡ None → Flows w
-flows_if (Faulting stop) e = cc
-flows_if w e = tt
-
-faulting_if : (w : Latch Completed) (stop : Stop) → stop_of w ≡ Some stop → w ≡ Faulting stop
-faulting_if (Faulting s) stop e = cc
-faulting_if w stop e = cc
-
-retires_count : (w : Latch Completed) → Flows w → one_if (is_some (retirement_of w)) ≡ occupied w
-retires_count (Faulting stop) h = absurd h
-retires_count w h = refl
 
 -- so a budget that was enough before is enough after it
 budget : (bound before after l : ℕ) (w : Latch Completed) (b : Bool) → b ≡ is_some (retirement_of w) → Down bound w before after → 1 ≤ after → before ≤ l → (b ≡ false → 2 ≤ l) × (after ≤ cond b bound (l - 1))

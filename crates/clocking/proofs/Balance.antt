@@ -11,7 +11,10 @@ use Rattle.rv32i.specs.declared.register.Register.{Register}
 use Rattle.rv32i.specs.declared.registers.Registers.{Registers}
 use Rattle.clocking.specs.Clock.{completes, executes, reads, decodes, plans, latches_after}
 use Rattle.clocking.specs.Counting.{occupied, in_flight_count, has_fetched, if_rolled, dropped, one_if}
-use Rattle.clocking.specs.Stages.{ExecuteOut, DecodeOut, data_request, told, data_stage, execute, turned, checked, execute_stage, source, with_operands, decode_word, decode_stage, fetching, fetches_on, fetch_stage}
+use Rattle.clocking.specs.Data.{data_request, told, data_stage}
+use Rattle.clocking.specs.Execute.{ExecuteOut, execute, turned, checked, execute_stage}
+use Rattle.clocking.specs.Decode.{DecodeOut, source, with_operands, decode_word, decode_stage}
+use Rattle.clocking.specs.Fetch.{fetching, fetches_on, fetch_stage}
 use Rattle.clocking.specs.declared.latch.Fetched.{Fetched}
 use Rattle.clocking.specs.declared.latch.Decoded.{Decoded}
 use Rattle.clocking.specs.declared.latch.Executed.{Executed}

@@ -19,8 +19,11 @@ use Rattle.rv32i.specs.Effects.{request, loaded, first_source, second_source}
 use Rattle.rv32i.specs.declared.instruction.Instruction.{Instruction}
 use Rattle.rv32i.specs.declared.registers.Registers.{Registers}
 use Rattle.clocking.specs.Clock.{plans, latches_after}
-use Rattle.clocking.specs.Ports.{Table, arrival}
-use Rattle.clocking.specs.Stages.{DataOut, ExecuteOut, DecodeOut, FetchOut, data_request, sent, complete, told, execute, turned, checked, execute_stage, gives, or_else, value_of, values_in_flight, source, with_operands, decode_word, decode_stage, x_result, fetching, fetches_on, fetch_stage}
+use Rattle.clocking.specs.Ports.{Table, arrival, sent}
+use Rattle.clocking.specs.Data.{DataOut, data_request, complete, told}
+use Rattle.clocking.specs.Execute.{ExecuteOut, execute, turned, checked, execute_stage, x_result}
+use Rattle.clocking.specs.Decode.{DecodeOut, gives, or_else, value_of, values_in_flight, source, with_operands, decode_word, decode_stage}
+use Rattle.clocking.specs.Fetch.{FetchOut, fetching, fetches_on, fetch_stage}
 use Rattle.clocking.specs.declared.latch.Latches.{Latches}
 use Rattle.clocking.proofs.Link.{waits_for, Worn}
 use Rattle.clocking.proofs.Chain.{Flows}

@@ -16,7 +16,9 @@ use Rattle.clocking.specs.declared.stage.Flow.TheVariants.{Stays, RollsBack}
 use Rattle.std.proofs.lemmas.Bool.{both_ways}
 use Rattle.rv32i.specs.Effects.{request, loaded}
 use Rattle.rv32i.proofs.Laws.{InRange, in_range}
-use Rattle.clocking.specs.Stages.{DataOut, data_request, sent, complete, completes_with, answered, told, data_stage, from_m, or_else}
+use Rattle.clocking.specs.Ports.{sent}
+use Rattle.clocking.specs.Data.{DataOut, data_request, complete, completes_with, answered, told, data_stage}
+use Rattle.clocking.specs.Decode.{from_m, or_else}
 use Rattle.clocking.proofs.Chain.{Reach, Broken, faults_on, HoldsW, HoldsM, behindW, behindM, bytes_at}
 use Rattle.clocking.proofs.Forward.{Known, layer, known_layer, Pairs, Runs, At, at, pairs, runs}
 use Rattle.clocking.proofs.Partial.{Done, settled_by, settle, moved, executed_at, done_at, completed_at, after_at}

@@ -15,7 +15,7 @@ use Rattle.rv32i_words.specs.Issues.{issued}
 use Rattle.rv32i.specs.Registers.{operand}
 use Rattle.rv32i.specs.declared.instruction.Instruction.{Instruction}
 use Rattle.sequential.specs.Sequential.{fetch}
-use Rattle.clocking.specs.Stages.{DecodeOut, source, with_operands, decode_word, decode_moves, decode_stays, decode_stage}
+use Rattle.clocking.specs.Decode.{DecodeOut, source, with_operands, decode_word, decode_moves, decode_stays, decode_stage}
 use Rattle.clocking.proofs.Chain.{Reach, faults_on, HoldsD, HoldsX, behindD, behindX, on_if}
 use Rattle.clocking.proofs.Execute.{Turned, Onward}
 use Rattle.clocking.proofs.Forward.{KnownRead}

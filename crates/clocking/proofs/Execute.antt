@@ -10,7 +10,8 @@ use Rattle.clocking.specs.declared.latch.Latch.TheVariants.{Empty, Faulting, Ful
 use Rattle.clocking.specs.declared.stage.Flow.{Flow}
 use Rattle.clocking.specs.declared.stage.Flow.TheVariants.{Moves, Stays, RollsBack}
 use Rattle.rv32i.specs.declared.cause.Cause.TheVariants.{FetchOutside}
-use Rattle.clocking.specs.Stages.{ExecuteOut, execute, turned, checked, execute_stage, x_result, early, from_x, or_else}
+use Rattle.clocking.specs.Execute.{ExecuteOut, execute, turned, checked, execute_stage, x_result}
+use Rattle.clocking.specs.Decode.{early, from_x, or_else}
 use Rattle.clocking.proofs.Chain.{Reach, Broken, faults_on, HoldsM, HoldsX, behindM, behindX, guessed, Leads}
 use Rattle.clocking.proofs.Data.{left, Back}
 use Rattle.clocking.proofs.Forward.{Known, layer, known_layer, Runs, AtX, at_x, runs, executes, ends}

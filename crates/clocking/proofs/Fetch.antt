@@ -5,7 +5,7 @@ use Rattle.base.specs.declared.bus.Request.{Request}
 use Rattle.base.specs.declared.bus.Request.TheVariants.{Read}
 use Rattle.memory.specs.Meaning.{Reply}
 use Rattle.memory.specs.declared.Answer.TheVariants.{Word}
-use Rattle.sequential.specs.Sequential.{State, World, then}
+use Rattle.sequential.specs.Sequential.{State, World, then, fetch}
 use Rattle.clocking.specs.declared.latch.Fetched.{Fetched}
 use Rattle.clocking.specs.declared.latch.Latch.{Latch}
 use Rattle.clocking.specs.declared.stage.Flow.{Flow}
@@ -14,13 +14,15 @@ use Rattle.std.proofs.lemmas.Bool.{and_parts}
 use Rattle.rv32i_words.specs.Issues.{issued}
 use Rattle.rv32i.specs.declared.cause.Cause.{Cause}
 use Rattle.rv32i.specs.declared.cause.Cause.TheVariants.{JumpMisaligned, FetchOutside}
-use Rattle.sequential.specs.Sequential.{fetch}
-use Rattle.clocking.specs.Stages.{FetchOut, sent, fetching, redirected, fetches_on, fetch_stage}
+use Rattle.clocking.specs.Ports.{sent, Table, arrival}
+use Rattle.clocking.specs.Fetch.{FetchOut, fetching, redirected, fetches_on, fetch_stage}
 use Rattle.clocking.proofs.Chain.{Reach, HoldsD, behindD, Leads, guessed}
 use Rattle.clocking.proofs.Decode.{Rests}
 use Rattle.clocking.proofs.Execute.{Turned}
 use Rattle.clocking.proofs.Partial.{fetched_at, after_at}
 use Rattle.clocking.proofs.Served.{Bytes}
+use Rattle.memory.specs.declared.Unserved.TheVariants.{Outside, Wait}
+use Rattle.clocking.proofs.Data.{idle_same}
 
 guess_leads_by : (g : ℕ) (t : State) (b : Bool) → eqb t.address g ≡ b → Leads g (cond b (Ok t) (Err FetchOutside))
 guess_leads_by g t true e = sym (eqb-true _ _ e)
@@ -90,3 +92,24 @@ module _ (world : World) where
   fetch_kept Moves f d t x u n r q h a hd hf o = by_size q f t x n (eqb (f % 4) 0) (ltb f world.text_size) refl refl h a (rw o hf)
   fetch_kept Stays f d t x u n r q h a hd hf o = rw o (record { d = hd; f = hf })
   fetch_kept RollsBack f d t x u n r q h a hd hf o = record { d = tt; f = turned_leads u f q o }
+
+-- ---- what fetching asks leaves the words as they are
+
+pub arrives_so : {P : Type 0} (table : Table P) (p : P) (f : ℕ) (a : Option Reply) → Arrives f a (arrival table p f a)
+arrives_so table p f (Some (Ok (Word w))) = (refl, refl, refl)
+arrives_so table p f a = tt
+
+-- reading does not change the bytes
+read_same : (size f : ℕ) (a : Option Reply) (u v : ℕ → ℕ) → Bytes size (Some (Read f)) a u v → v ≡ u
+read_same size f (Some (Ok (Word w))) u v h = h.2
+read_same size f (Some (Err Wait)) u v h = h
+read_same size f (Some (Err Outside)) u v h = h.1
+read_same size f a u v h = absurd h
+
+asked_kept : (size f : ℕ) (b d : Bool) (a : Option Reply) (u v : ℕ → ℕ) → Bytes size (sent (asked_if f b d)) a u v → v ≡ u
+asked_kept size f true true a u v h = read_same size f a u v h
+asked_kept size f b d a u v h = idle_same size a u v h
+
+pub text_kept : (size f : ℕ) (flow : Flow) (a : Option Reply) (u v : ℕ → ℕ) → Bytes size (sent (fetching size f flow)) a u v → v ≡ u
+text_kept size f Moves a u v h = asked_kept size f (eqb (f % 4) 0) (ltb f size) a u v h
+text_kept size f flow a u v h = idle_same size a u v h

@@ -16,7 +16,9 @@ use Rattle.rv32i.specs.declared.instruction.Instruction.{Instruction}
 use Rattle.rv32i.specs.declared.register.Register.{Register}
 use Rattle.rv32i.specs.declared.registers.Registers.{Registers}
 use Rattle.sequential.specs.Sequential.{State, World, then, fetch}
-use Rattle.clocking.specs.Stages.{complete, ran, execute, gives, early, or_else, value_of, source}
+use Rattle.clocking.specs.Data.{complete}
+use Rattle.clocking.specs.Execute.{ran, execute}
+use Rattle.clocking.specs.Decode.{gives, early, or_else, value_of, source}
 use Rattle.clocking.specs.declared.latch.Decoded.{Decoded}
 use Rattle.clocking.specs.declared.latch.Executed.{Executed}
 use Rattle.clocking.specs.declared.latch.Completed.{Completed}

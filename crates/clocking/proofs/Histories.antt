@@ -4,7 +4,7 @@ use mathlib.Core.Path.{fun_ext}
 use Rattle.base.specs.declared.branch.Outcome.{Outcome}
 use Rattle.sequential.specs.declared.record.Retirement.{Retirement}
 use Rattle.clocking.specs.Agreement.{listed, retirements, outcomes}
-use Rattle.clocking.specs.Clock.{outcome_of}
+use Rattle.clocking.specs.WriteBack.{outcome_of}
 use Rattle.clocking.specs.Counting.{one_if}
 use Rattle.clocking.specs.Ports.{Table, Taught}
 use Rattle.clocking.specs.declared.state.Event.{Event}

@@ -18,11 +18,15 @@ use Rattle.rv32i.specs.declared.registers.Registers.{Registers}
 use Rattle.rv32i_words.specs.Issues.{issues, issued}
 use Rattle.rv32i_words.specs.Words.{decoded}
 use Rattle.sequential.specs.declared.record.Stop.{Stop}
-use Rattle.clocking.specs.Clock.{stop_of, retirement_of, completes, executes, reads, decodes, plans, fetches, latches_after, move_notes, Moved, Halted, Worked, Cycled}
+use Rattle.clocking.specs.Clock.{completes, executes, reads, decodes, plans, fetches, latches_after, move_notes, Moved, Halted, Worked, Cycled}
+use Rattle.clocking.specs.WriteBack.{stop_of, retirement_of}
 use Rattle.clocking.specs.Counting.{has_fetched, dropped, one_if, Counted, is_wait, stays, moves, rolls_back}
 use Rattle.clocking.specs.Laws.{is_held, x_writes, x_loads, x_value, m_writes, m_value, w_writes, w_value, at_w, at_m, at_x, at_d, flight, m_is_refused, x_is_misguessed, x_next, rolls_by_data, rolls_by_execute, rolls, is_missing, is_short, stalls, d_stays, d_is_free, f_asks, removed, forwarded, in_x, Decoding, guess_of, Fetching, Flight, GoingOn, Ending, Held, ClockLaws}
-use Rattle.clocking.specs.Ports.{Table, Asked, guess_after, arrival}
-use Rattle.clocking.specs.Stages.{DecodeOut, FetchOut, data_request, sent, decode_moves, decode_stays, decode_stage, execute_stage, fetching, redirected, placed, fetches_on, fetch_stage, value_of}
+use Rattle.clocking.specs.Ports.{Table, Asked, guess_after, arrival, sent}
+use Rattle.clocking.specs.Data.{data_request}
+use Rattle.clocking.specs.Execute.{execute_stage}
+use Rattle.clocking.specs.Decode.{DecodeOut, decode_moves, decode_stays, decode_stage, value_of}
+use Rattle.clocking.specs.Fetch.{FetchOut, fetching, redirected, placed, fetches_on, fetch_stage}
 use Rattle.clocking.specs.declared.counts.Counts.{Counts}
 use Rattle.clocking.specs.declared.latch.Fetched.{Fetched}
 use Rattle.clocking.specs.declared.latch.Decoded.{Decoded}

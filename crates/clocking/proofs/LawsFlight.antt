@@ -13,7 +13,11 @@ use Rattle.rv32i.specs.declared.register.Register.{Register}
 use Rattle.sequential.specs.Sequential.{then}
 use Rattle.clocking.specs.Counting.{is_wait, occupied, has_fetched, if_rolled, one_if}
 use Rattle.clocking.specs.Laws.{at_w, at_m, at_x, at_d, effect_of}
-use Rattle.clocking.specs.Stages.{ExecuteOut, DecodeOut, sent, data_request, told, data_stage, ran, turned, checked, execute_stage, source, with_operands, decode_word, decode_stage, fetching, fetches_on, fetch_stage}
+use Rattle.clocking.specs.Ports.{sent}
+use Rattle.clocking.specs.Data.{data_request, told, data_stage}
+use Rattle.clocking.specs.Execute.{ExecuteOut, ran, turned, checked, execute_stage}
+use Rattle.clocking.specs.Decode.{DecodeOut, source, with_operands, decode_word, decode_stage}
+use Rattle.clocking.specs.Fetch.{fetching, fetches_on, fetch_stage}
 use Rattle.clocking.specs.declared.latch.Fetched.{Fetched}
 use Rattle.clocking.specs.declared.latch.Decoded.{Decoded}
 use Rattle.clocking.specs.declared.latch.Executed.{Executed}

@@ -15,8 +15,10 @@ use Rattle.rv32i.specs.declared.register.Register.{Register}
 use Rattle.sequential.specs.Sequential.{then}
 use Rattle.clocking.specs.Counting.{is_wait}
 use Rattle.clocking.specs.Laws.{is_held, m_is_refused, m_request, m_asks, m_writes, value_with, m_value, effect_of, result_of, next_of, leads_elsewhere, x_is_misguessed, x_next, x_writes, is_load, x_loads, x_value, w_writes, w_value, is_missing, lacks, lacks_any, is_short, forwarded, operand_of, read_for, in_x}
-use Rattle.clocking.specs.Ports.{Asked}
-use Rattle.clocking.specs.Stages.{DecodeOut, sent, data_request, told, data_stage, ran, turned, checked, execute_stage, x_result, gives, early, from_x, arrived, from_m, from_w, or_else, source, with_operands, decode_word, decode_moves}
+use Rattle.clocking.specs.Ports.{Asked, sent}
+use Rattle.clocking.specs.Data.{data_request, told, data_stage}
+use Rattle.clocking.specs.Execute.{ran, turned, checked, execute_stage, x_result}
+use Rattle.clocking.specs.Decode.{DecodeOut, gives, early, from_x, arrived, from_m, from_w, or_else, source, with_operands, decode_word, decode_moves}
 use Rattle.clocking.specs.declared.latch.Fetched.{Fetched}
 use Rattle.clocking.specs.declared.latch.Decoded.{Decoded}
 use Rattle.clocking.specs.declared.latch.Executed.{Executed}

@@ -9,7 +9,8 @@ use Rattle.rv32i.specs.declared.effect.Effect.{Effect}
 use Rattle.rv32i.specs.declared.instruction.Instruction.{Instruction}
 use Rattle.sequential.specs.Sequential.{State, World, Step, Transfer, then, transferred, retired, first_operand, second_operand, stepped, fetch, step}
 use Rattle.sequential.specs.declared.record.Retirement.{Retirement}
-use Rattle.clocking.specs.Stages.{complete, ran, execute}
+use Rattle.clocking.specs.Data.{complete}
+use Rattle.clocking.specs.Execute.{ran, execute}
 use Rattle.clocking.specs.declared.latch.Fetched.{Fetched}
 use Rattle.clocking.specs.declared.latch.Decoded.{Decoded}
 use Rattle.clocking.specs.declared.latch.Executed.{Executed}

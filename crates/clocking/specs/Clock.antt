@@ -1,48 +1,27 @@
 -- One clock. Assumes nothing.
 use Rattle.std.specs.Prelude.{◌≡◌, ℕ, true, false, ◌&&◌, is_some, Some, None, Option, Result}
-use Rattle.base.specs.declared.branch.Outcome.{Outcome}
 use Rattle.base.specs.declared.bus.Request.{Request}
 use Rattle.memory.specs.Meaning.{Meaning}
 use Rattle.memory.specs.Meaning.{Reply}
-use Rattle.rv32i.specs.Registers.{written}
 use Rattle.rv32i.specs.declared.cause.Cause.{Cause}
 use Rattle.rv32i.specs.declared.register.Register.{Register}
 use Rattle.rv32i.specs.declared.registers.Registers.{Registers}
-use Rattle.sequential.specs.Sequential.{retired}
-use Rattle.sequential.specs.declared.record.Retirement.{Retirement}
 use Rattle.sequential.specs.declared.record.Stop.{Stop}
 use Rattle.clocking.specs.Counting.{has_fetched, dropped, Counted, stays, moves, rolls_back, is_wait}
-use Rattle.clocking.specs.Ports.{Table, Asked, Taught, arrival}
-use Rattle.clocking.specs.Stages.{DataOut, ExecuteOut, DecodeOut, FetchOut, data_request, sent, data_stage, execute_stage, x_result, values_in_flight, decode_stage, fetching, fetch_stage}
+use Rattle.clocking.specs.Ports.{Table, Asked, Taught, arrival, sent}
+use Rattle.clocking.specs.WriteBack.{stop_of, retirement_of, outcome_of, written_back}
+use Rattle.clocking.specs.Data.{DataOut, data_request, data_stage}
+use Rattle.clocking.specs.Execute.{ExecuteOut, execute_stage, x_result}
+use Rattle.clocking.specs.Decode.{DecodeOut, values_in_flight, decode_stage}
+use Rattle.clocking.specs.Fetch.{FetchOut, fetching, fetch_stage}
 use Rattle.clocking.specs.declared.state.Core.{Core}
 use Rattle.clocking.specs.declared.state.ClockRecord.{ClockRecord}
 use Rattle.clocking.specs.declared.state.Event.{Event}
 use Rattle.clocking.specs.declared.state.Notes.{Notes}
-use Rattle.clocking.specs.declared.latch.Completed.{Completed}
 use Rattle.clocking.specs.declared.latch.Fetched.{Fetched}
 use Rattle.clocking.specs.declared.latch.Latch.{Latch}
 use Rattle.clocking.specs.declared.latch.Latch.TheVariants.{Empty, Faulting, Full}
 use Rattle.clocking.specs.declared.latch.Latches.{Latches}
-
--- ---- write-back
-
--- W stops the machine where it is faulting
-abbrev pub stop_of : Latch Completed → Option Stop
-stop_of (Faulting stop) = Some stop
-stop_of w = None
-
--- W retires where it is full and not faulting
-abbrev pub retirement_of : Latch Completed → Option Retirement
-retirement_of (Full c) = Some (record { retired = retired c.address c.word c.rd c.value; outcome = c.outcome })
-retirement_of w = None
-
-abbrev pub outcome_of : Option Retirement → Option Outcome
-outcome_of None = None
-outcome_of (Some r) = r.outcome
-
-abbrev pub written_back : Registers → Latch Completed → Registers
-written_back g (Full c) = written g c.rd c.value
-written_back g w = g
 
 -- ---- the stages, one after another; g is the register file once W is written back
 

@@ -17,10 +17,10 @@ use Rattle.rv32i.specs.declared.register.Register.{Register}
 use Rattle.rv32i_words.specs.Issues.{issued}
 use Rattle.rv32i_words.specs.Words.{decoded}
 use Rattle.sequential.specs.declared.record.Stop.{Stop}
-use Rattle.clocking.specs.Clock.{stop_of}
+use Rattle.clocking.specs.WriteBack.{stop_of}
 use Rattle.clocking.specs.Counting.{is_wait}
 use Rattle.clocking.specs.Ports.{Table, Asked}
-use Rattle.clocking.specs.Stages.{gives, value_of}
+use Rattle.clocking.specs.Decode.{gives, value_of}
 use Rattle.clocking.specs.declared.counts.Counts.{Counts}
 use Rattle.clocking.specs.declared.latch.Fetched.{Fetched}
 use Rattle.clocking.specs.declared.latch.Decoded.{Decoded}

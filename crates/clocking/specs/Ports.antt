@@ -18,6 +18,11 @@ use Rattle.clocking.specs.declared.latch.Fetched.{Fetched}
 abbrev pub Table : Type 0 → Type 0
 Table P = P → List Outcome → ℕ → ℕ → Bool
 
+-- a cause asks nothing
+abbrev pub sent : Result (Option Request) Cause → Option Request
+sent (Err c) = None
+sent (Ok q) = q
+
 -- one call a clock: a request and its reply, or idle
 abbrev pub Asked : {M : Type 0} → Meaning M → M → Option Request → Option Reply → M → Type 0
 Asked means m None None n = means.idles m n

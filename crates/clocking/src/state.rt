@@ -4,8 +4,8 @@ use crate::latch::Latches;
 use memory::Memory;
 use predictor::Predictor;
 use rv32i::registers::Registers;
-use sequential::record::{Retirement, Stop};
 use rv32i_words::memo::Memo;
+use sequential::record::{Retirement, Stop};
 
 /// The registers, the latches and the counts, with the words that are remembered, the predictor and the two memories.
 #[derive(Drop)]

@@ -3,7 +3,8 @@ use Rattle.std.proofs.Common.{◌≡◌, ℕ, zero, suc, ◌+◌, ◌<◌, ◌�
 use Rattle.std.proofs.lemmas.Bool.Decides.{nat_tests}
 use Rattle.base.specs.Refusals.{reason}
 use Rattle.memory.specs.Meaning.{Meaning}
-use Rattle.clocking.specs.Clock.{Worked, stop_of}
+use Rattle.clocking.specs.Clock.{Worked}
+use Rattle.clocking.specs.WriteBack.{stop_of}
 use Rattle.clocking.specs.Ports.{Table}
 use Rattle.clocking.specs.declared.state.Core.{Core}
 use Rattle.clocking.specs.declared.state.Event.{Event}

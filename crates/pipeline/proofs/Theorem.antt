@@ -5,7 +5,8 @@ use Rattle.std.proofs.lemmas.Bool.Decides.{nat_tests}
 use Rattle.base.specs.declared.refusal.Refusal.{Refusal}
 use Rattle.memory.specs.Meaning.{Meaning, Lawful}
 use Rattle.sequential.specs.declared.record.Stop.{Stop}
-use Rattle.clocking.specs.Clock.{Worked, stop_of}
+use Rattle.clocking.specs.Clock.{Worked}
+use Rattle.clocking.specs.WriteBack.{stop_of}
 use Rattle.clocking.specs.Ports.{Table}
 use Rattle.clocking.specs.declared.state.Core.{Core}
 use Rattle.clocking.specs.declared.state.Event.{Event}

@@ -1,5 +1,4 @@
 //! How a machine is held and let go again.
-ghost use Rattle.std.specs.Prelude.{◌≡◌};
 ghost use Rattle.pipeline.specs.Pauses.{Paused};
 
 use crate::machine::Machine;

@@ -1,5 +1,4 @@
 //! How a machine comes to be.
-ghost use Rattle.std.specs.Prelude.{◌≡◌};
 ghost use Rattle.memory.specs.Meaning.{Checked};
 ghost use Rattle.pipeline.specs.Calls.{Loaded, load_fits};
 ghost use Rattle.pipeline.specs.Theorem.{Agrees};

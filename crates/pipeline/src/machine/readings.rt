@@ -1,5 +1,5 @@
 //! What can be read of a machine, also while it is held and after it has stopped.
-ghost use Rattle.std.specs.Prelude.{◌≡◌, ◌<◌, ◌≤◌, slice_index};
+ghost use Rattle.std.specs.Prelude.{◌≡◌, ◌<◌};
 ghost use Rattle.memory.specs.Meaning.{ByteRead};
 ghost use Rattle.rv32i.specs.Registers.{RegisterRead};
 ghost use Rattle.pipeline.specs.Readings.{totals};

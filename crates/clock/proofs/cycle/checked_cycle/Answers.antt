@@ -1,6 +1,6 @@
 -- A clock keeps the laws, since it is the clock that the rule has.
 use Rattle.std.proofs.Common.{◌≡◌, Some, None}
-use Rattle.clocking.specs.Clock.{stop_of}
+use Rattle.clocking.specs.WriteBack.{stop_of}
 use Rattle.clocking.proofs.Laws.{clock_laws}
 use Rattle.clock.proofs.cycle.checked_cycle.Goals as goal
 

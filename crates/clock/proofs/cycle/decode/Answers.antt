@@ -1,6 +1,7 @@
 use Rattle.std.proofs.Common.{ℕ, Option, ap, ◌∙◌}
 use Rattle.rv32i.specs.declared.register.Register.{Register}
-use Rattle.clocking.specs.Stages.{x_result, decode_stage}
+use Rattle.clocking.specs.Execute.{x_result}
+use Rattle.clocking.specs.Decode.{decode_stage}
 use Rattle.clock.proofs.Forwarding.{same_values}
 use Rattle.clock.specs.Cycle.{with_x}
 use Rattle.clock.proofs.cycle.decode.Goals as goal

@@ -1,0 +1,61 @@
+-- The execute stage: X goes to M, computed. Assumes nothing.
+use Rattle.std.specs.Prelude.{ℕ, Bool, true, false, Some, None, Ok, Err, Option, Result, ◌==◌}
+use Rattle.rv32i.specs.Effects.{executed, access}
+use Rattle.rv32i.specs.declared.cause.Cause.{Cause}
+use Rattle.rv32i.specs.declared.effect.Effect.{Effect}
+use Rattle.sequential.specs.Sequential.{then}
+use Rattle.clocking.specs.declared.latch.Decoded.{Decoded}
+use Rattle.clocking.specs.declared.latch.Executed.{Executed}
+use Rattle.clocking.specs.declared.latch.Latch.{Latch}
+use Rattle.clocking.specs.declared.latch.Latch.TheVariants.{Empty, Faulting, Full}
+use Rattle.clocking.specs.declared.stage.Flow.{Flow}
+use Rattle.clocking.specs.declared.stage.Flow.TheVariants.{Moves, Stays, RollsBack}
+
+-- what goes to M, what became of X, and after a wrong guess where fetching has to go on
+pub record ExecuteOut : Type 0 where
+  pub m : Latch Executed
+  pub flow : Flow
+  pub redirect : Option ℕ
+
+abbrev pub ran : Decoded → Effect → Executed
+ran d e = record {
+  address = d.address;
+  word = d.word;
+  rd = d.rd;
+  access = access d.instruction;
+  result = e.result;
+  b = d.b;
+  next = e.next;
+  outcome = e.outcome;
+}
+
+abbrev pub execute : Decoded → Result Executed Cause
+execute d = then (executed d.instruction d.address d.a d.b) (λ e. Ok (ran d e))
+
+-- whether its true next address is the guessed one
+abbrev pub turned : Executed → Bool → ExecuteOut
+turned e true = record { m = Full e; flow = Moves; redirect = None }
+turned e false = record { m = Full e; flow = RollsBack; redirect = Some e.next }
+
+abbrev pub checked : ℕ → ℕ → Result Executed Cause → ExecuteOut
+checked a guess (Err c) = record { m = Faulting (record { address = a; cause = c }); flow = Moves; redirect = None }
+checked a guess (Ok e) = turned e (e.next == guess)
+
+-- what becomes of a latch before which nothing moves: it stays, unless it is empty
+abbrev pub held_up : {T : Type 0} → Latch T → Flow
+held_up Empty = Moves
+held_up l = Stays
+
+-- by what the data stage did with M
+abbrev pub execute_stage : Latch Executed → Latch Decoded → Flow → ExecuteOut
+execute_stage m x RollsBack = record { m = Empty; flow = RollsBack; redirect = None }
+execute_stage m Empty Stays = record { m = m; flow = Moves; redirect = None }
+execute_stage m x Stays = record { m = m; flow = Stays; redirect = None }
+execute_stage m Empty Moves = record { m = Empty; flow = Moves; redirect = None }
+execute_stage m (Faulting stop) Moves = record { m = Faulting stop; flow = Moves; redirect = None }
+execute_stage m (Full d) Moves = checked d.address d.guess (execute d)
+
+-- X with this clock's result: what it put into M, if M moved
+abbrev pub x_result : Flow → Latch Executed → Latch Executed
+x_result Moves m = m
+x_result flow m = Empty

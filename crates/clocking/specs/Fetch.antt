@@ -1,0 +1,41 @@
+-- The fetch stage: the word at F goes to D, and F on to the guess. Assumes nothing.
+use Rattle.std.specs.Prelude.{ℕ, ◌%◌, cond, Some, None, Ok, Err, Option, Result, ◌==◌, nat_lt}
+use Rattle.base.specs.declared.bus.Request.{Request}
+use Rattle.base.specs.declared.bus.Request.TheVariants.{Read}
+use Rattle.rv32i.specs.Effects.{following}
+use Rattle.rv32i.specs.declared.cause.Cause.{Cause}
+use Rattle.rv32i.specs.declared.cause.Cause.TheVariants.{JumpMisaligned, FetchOutside}
+use Rattle.clocking.specs.declared.latch.Fetched.{Fetched}
+use Rattle.clocking.specs.declared.latch.Latch.{Latch}
+use Rattle.clocking.specs.declared.latch.Latch.TheVariants.{Empty, Faulting, Full}
+use Rattle.clocking.specs.declared.stage.Flow.{Flow}
+use Rattle.clocking.specs.declared.stage.Flow.TheVariants.{Moves, Stays, RollsBack}
+
+-- where fetching goes on, and what goes to D
+pub record FetchOut : Type 0 where
+  pub f : ℕ
+  pub d : Latch Fetched
+
+-- what is asked of an instruction memory of that size for f, or the cause that f has, by what the decode stage did with D
+abbrev pub fetching : ℕ → ℕ → Flow → Result (Option Request) Cause
+fetching size f Moves = cond (f % 4 == 0) (cond (nat_lt f size) (Ok (Some (Read f))) (Err FetchOutside)) (Err JumpMisaligned)
+fetching size f flow = Ok None
+
+abbrev pub redirected : ℕ → Option ℕ → ℕ
+redirected f None = f
+redirected f (Some n) = n
+
+-- what arrived is put into D, with the guess where fetching goes on
+abbrev pub placed : ℕ → Option Fetched → FetchOut
+placed f None = record { f = f; d = Empty }
+placed f (Some x) = record { f = x.guess; d = Full x }
+
+abbrev pub fetches_on : ℕ → Result (Option Request) Cause → Option Fetched → FetchOut
+fetches_on f (Err c) x = record { f = following f; d = Faulting (record { address = f; cause = c }) }
+fetches_on f (Ok None) x = record { f = f; d = Empty }
+fetches_on f (Ok (Some q)) x = placed f x
+
+abbrev pub fetch_stage : ℕ → Latch Fetched → Flow → Result (Option Request) Cause → Option Fetched → Option ℕ → FetchOut
+fetch_stage f d RollsBack asked x redirect = record { f = redirected f redirect; d = Empty }
+fetch_stage f d Stays asked x redirect = record { f = f; d = d }
+fetch_stage f d Moves asked x redirect = fetches_on f asked x

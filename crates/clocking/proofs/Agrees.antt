@@ -2,7 +2,6 @@
 use Rattle.std.proofs.Common.{◌≡◌, ℕ, ◌+◌, ◌-◌, ◌<◌, ◌≤◌, Bool, true, false, cond, List, [], ◌∷◌, ◌++◌, length, is_some, Some, None, Ok, Option, sym, refl, ap, ◌∙◌, subst, append-nil, arith}
 use Rattle.std.proofs.Math.Bool.{or-false}
 use mathlib.Core.Path.{fun_ext}
-use Rattle.base.specs.declared.bus.Request.{Request}
 use Rattle.memory.specs.Meaning.{Meaning, Lawful}
 use Rattle.memory.specs.Meaning.{Reply}
 use Rattle.rv32i.specs.declared.registers.Registers.{Registers}
@@ -24,7 +23,7 @@ use Rattle.clocking.specs.declared.latch.Latch.TheVariants.{Empty, Faulting, Ful
 use Rattle.clocking.specs.declared.latch.Latches.{Latches}
 use Rattle.clocking.proofs.Balance.{clock_balance, dropped_most}
 use Rattle.clocking.proofs.Chain.{Flows, Chain, HoldsW}
-use Rattle.clocking.proofs.Countdown.{count, Lulled, Down, down, lulls, least_one, at_first}
+use Rattle.clocking.proofs.Countdown.{Memories, Waits, count, Lulled, Clock, Down, down, lulls, least_one, at_first}
 use Rattle.clocking.proofs.Fetch.{arrives_so, text_kept}
 use Rattle.clocking.proofs.Histories.{retirements_more, length_more, retired_more, taught_more}
 use Rattle.clocking.proofs.Keeps.{clock_keeps}
@@ -54,15 +53,27 @@ module _ {P I D : Type 0} (table : Table P) (instructions : Meaning I) (words : 
   abbrev wd : ℕ
   wd = words.view.longest first.«data»
 
-  abbrev countdown : Core P I D → ℕ
-  countdown m =
-      count world.data_size world.text_size wd (words.view.waits m.«data») (instructions.view.waits m.instructions) m.latches.w m.latches.m m.latches.x m.latches.d m.latches.f
+  abbrev fixed : Memories
+  fixed = record { data_size = world.data_size; text_size = world.text_size; data_longest = wd; text_longest = wi }
+
+  abbrev waits : Core P I D → Waits
+  waits m = record { of_data = words.view.waits m.«data»; of_text = instructions.view.waits m.instructions }
+
+  -- how many clocks a retirement allows, and the start; and how many are left after the history
+  abbrev bound : ℕ
+  bound = wi + wd + 3
+
+  abbrev first_bound : ℕ
+  first_bound = wi + wd + 5
+
+  abbrev allowed : List Event → ℕ
+  allowed h = left bound first_bound h
 
   -- what holds of a machine that has not stopped
   record Live (h : List Event) (s : State) (m : Core P I D) : Type 0 where
     chain : Chain world s (words.view.byte m.«data») m.registers m.latches
-    lull : Lulled world.text_size wi (instructions.view.waits m.instructions) m.latches.w m.latches.m m.latches.x m.latches.d m.latches.f
-    in_budget : countdown m ≤ left (wi + wd + 3) (wi + wd + 5) h
+    lull : Lulled fixed (waits m) m.latches
+    in_budget : count fixed (waits m) m.latches ≤ allowed h
 
   abbrev LiveIf : Option Stop → List Event → State → Core P I D → Type 0
   LiveIf None h s m = Live h s m
@@ -80,7 +91,7 @@ module _ {P I D : Type 0} (table : Table P) (instructions : Meaning I) (words : 
     text : instructions.view.byte m.instructions ≡ world.text
     data_longest : words.view.longest m.«data» ≡ wd
     text_longest : instructions.view.longest m.instructions ≡ wi
-    paced : Paced (wi + wd + 3) (wi + wd + 5) h
+    paced : Paced bound first_bound h
     accounted : Accounted table instructions words first h m
 
   -- ---- a clock in which the machine goes on
@@ -156,45 +167,42 @@ module _ {P I D : Type 0} (table : Table P) (instructions : Meaning I) (words : 
         (subst (λ (z : ℕ → ℕ). Bytes world.text_size (sent (plans world.data_size world.text_size g m.latches w.reply)) w.answer z (instructions.view.byte n.instructions)) k.text w.text_served)
         (arrives_so table n.predictor m.latches.f w.answer)
 
-    -- the waits that may be left, before and after
-    data_few : (q : Request) → words.view.waits m.«data» q ≤ wd
-    data_few q = rw k.data_longest at (dl.patient m.«data» q)
-
-    data_few_then : (q : Request) → words.view.waits n.«data» q ≤ wd
-    data_few_then q = rw (w.data_longest ∙ k.data_longest) at (dl.patient n.«data» q)
-
-    text_few : (q : Request) → instructions.view.waits m.instructions q ≤ wi
-    text_few q = rw k.text_longest at (il.patient m.instructions q)
+    abbrev clock : Clock table fixed
+    clock = record {
+      registers = g;
+      predictor = n.predictor;
+      reply = w.reply;
+      answer = w.answer;
+      text_before = instructions.view.byte m.instructions;
+      text_after = instructions.view.byte n.instructions;
+      before = waits m;
+      after = waits n;
+      data_patient = λ q. rw k.data_longest at (dl.patient m.«data» q);
+      data_still_patient = λ q. rw (w.data_longest ∙ k.data_longest) at (dl.patient n.«data» q);
+      text_patient = λ q. rw k.text_longest at (il.patient m.instructions q);
+    }
 
     -- the countdown after the clock
     abbrev ends : ℕ
-    ends = count world.data_size world.text_size wd (words.view.waits n.«data») (instructions.view.waits n.instructions) next.w next.m next.x next.d next.f
+    ends = count fixed (waits n) next
 
-    falls : Down (wi + wd + 3) m.latches.w (countdown m) ends
-    falls =
-        down world.data_size world.text_size wd wi (words.view.waits m.«data») (words.view.waits n.«data») (instructions.view.waits m.instructions) (instructions.view.waits n.instructions)
-        data_few_then text_few table n.predictor g (instructions.view.byte m.instructions) (instructions.view.byte n.instructions) w.reply w.answer
-        m.latches.f m.latches.d m.latches.x m.latches.m m.latches.w flows w.data_worn (w.text_served, w.text_worn) l.lull data_few
+    falls : Down bound m.latches.w (count fixed (waits m) m.latches) ends
+    falls = down table fixed clock m.latches flows w.data_worn (w.text_served, w.text_worn) l.lull
 
-    lull_next : Lulled world.text_size wi (instructions.view.waits n.instructions) next.w next.m next.x next.d next.f
-    lull_next =
-        lulls world.data_size world.text_size wd wi (words.view.waits m.«data») (words.view.waits n.«data») (instructions.view.waits m.instructions) (instructions.view.waits n.instructions)
-        data_few_then text_few table n.predictor g (instructions.view.byte m.instructions) (instructions.view.byte n.instructions) w.reply w.answer
-        m.latches.f m.latches.d m.latches.x m.latches.m m.latches.w (w.text_served, w.text_worn)
+    lull_next : Lulled fixed (waits n) next
+    lull_next = lulls table fixed clock m.latches (w.text_served, w.text_worn)
 
     produces : productive e ≡ is_some (retirement_of m.latches.w)
     produces = rw (w.retires_so, w.not_stop) (or-false (is_some (retirement_of m.latches.w)))
 
-    abbrev budgeted : (productive e ≡ false → 2 ≤ left (wi + wd + 3) (wi + wd + 5) h) × (ends ≤ cond (productive e) (wi + wd + 3) (left (wi + wd + 3) (wi + wd + 5) h - 1))
-    budgeted =
-        budget (wi + wd + 3) (countdown m) ends (left (wi + wd + 3) (wi + wd + 5) h) m.latches.w (productive e) produces falls
-        (least_one world.data_size world.text_size wd (words.view.waits n.«data») (instructions.view.waits n.instructions) next.w next.m next.x next.d next.f) l.in_budget
+    abbrev budgeted : (productive e ≡ false → 2 ≤ allowed h) × (ends ≤ cond (productive e) bound (allowed h - 1))
+    budgeted = budget bound (count fixed (waits m) m.latches) ends (allowed h) m.latches.w (productive e) produces falls (least_one fixed (waits n) next) l.in_budget
 
     live_next : (t : State) → Chain world t (words.view.byte n.«data») g next → Live (h ++ e ∷ []) t n
     live_next t c = record {
       chain = rw (w.registers_so, w.latches_so) c;
       lull = rw w.latches_so lull_next;
-      in_budget = rw (w.latches_so, left_more (wi + wd + 3) (wi + wd + 5) h e) budgeted.1;
+      in_budget = rw (w.latches_so, left_more bound first_bound h e) budgeted.1;
     }
 
     accounted_next : m.stopped ≡ None → m.counts.clocks < 4294967295 → Accounted table instructions words first (h ++ e ∷ []) n
@@ -234,7 +242,7 @@ module _ {P I D : Type 0} (table : Table P) (instructions : Meaning I) (words : 
           ∙ k.text;
       data_longest = w.data_longest ∙ k.data_longest;
       text_longest = w.text_longest ∙ k.text_longest;
-      paced = paced_more (wi + wd + 3) (wi + wd + 5) h e k.paced budgeted.0;
+      paced = paced_more bound first_bound h e k.paced budgeted.0;
       accounted = accounted_next runs spent;
     }
 
@@ -274,7 +282,7 @@ module _ {P I D : Type 0} (table : Table P) (instructions : Meaning I) (words : 
         text = fun_ext i.byte ∙ k.text;
         data_longest = j.longest ∙ k.data_longest;
         text_longest = i.longest ∙ k.text_longest;
-        paced = paced_more (wi + wd + 3) (wi + wd + 5) h e k.paced (λ z. cc);
+        paced = paced_more bound first_bound h e k.paced (λ z. cc);
         accounted = record {
           taught = taught_more table first.predictor m.predictor n.predictor h e a.taught (rw none w.same_predictor);
           balanced = rw (w.latches_so, w.stops_so) (omega arith);
@@ -299,8 +307,8 @@ module _ {P I D : Type 0} (table : Table P) (instructions : Meaning I) (words : 
   kept_agrees h m k = record {
     sequentially = record { reached = k.reached; steps = k.steps; registers = k.registers; stops = k.stops; bytes = k.bytes };
     in_time = record {
-      first_soon = soon (wi + wd + 3) h (wi + wd + 5) k.paced (omega arith);
-      next_soon = λ a e b q r. soon_after (wi + wd + 3) (omega arith) a e b (wi + wd + 5) (subst (λ (z : List Event). Paced (wi + wd + 3) (wi + wd + 5) z) q k.paced) (retires_productive e r);
+      first_soon = soon bound h first_bound k.paced (omega arith);
+      next_soon = λ a e b q r. soon_after bound (omega arith) a e b first_bound (subst (λ (z : List Event). Paced bound first_bound z) q k.paced) (retires_productive e r);
     };
     accounted = k.accounted;
   }
@@ -320,10 +328,7 @@ module _ {P I D : Type 0} (table : Table P) (instructions : Meaning I) (words : 
     chain = rw z.latches (record { sized = z.sized; registers = refl; w = tt; memory = refl; m = tt; x = tt; d = tt; f = refl });
     lull = rw z.latches tt;
     in_budget =
-        rw z.latches
-        (let k =
-        at_first world.data_size world.text_size wd wi (words.view.waits first.«data») (instructions.view.waits first.instructions) (il.patient first.instructions) first.latches.f in
-        omega arith);
+        rw z.latches (let k = at_first fixed (waits first) (il.patient first.instructions) first.latches.f in omega arith);
   }
 
   pub kept_first : Fresh → Kept [] first

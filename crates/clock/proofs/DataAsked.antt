@@ -22,7 +22,7 @@ module _ {D : Type 0} (words : Meaning D) (old new : D) (w : Latch Completed) (f
       → w ≡ (data_stage m (data_request (words.view.size old) m) None).w
       → flow ≡ (data_stage m (data_request (words.view.size old) m) None).flow
       → DataDone words m old new w flow
-  data_idle m e i p q = record { reply = None; asked = rw e i; w_so = p; flow_so = q }
+  data_idle m e i p q = record { reply = None; asked = rw e i; fills = p; flows = q }
 
   -- M has a cause
   pub data_refused : (e : Executed) (c : Cause) → Gives (request (words.view.size old) e.access e.result e.b) (Err c) → words.idles old new
@@ -30,7 +30,7 @@ module _ {D : Type 0} (words : Meaning D) (old new : D) (w : Latch Completed) (f
       → DataDone words (Full e) old new w flow
   data_refused e c h i p q =
       let z = sym (given _ _ h) in
-      record { reply = None; asked = rw z i; w_so = rw z p; flow_so = rw z q }
+      record { reply = None; asked = rw z i; fills = rw z p; flows = rw z q }
 
   -- M uses no memory
   pub data_free : (e : Executed) → Gives (request (words.view.size old) e.access e.result e.b) (Ok None) → words.idles old new
@@ -38,7 +38,7 @@ module _ {D : Type 0} (words : Meaning D) (old new : D) (w : Latch Completed) (f
       → DataDone words (Full e) old new w flow
   data_free e h i p q =
       let z = sym (given _ _ h) in
-      record { reply = None; asked = rw z i; w_so = rw z p; flow_so = rw z q }
+      record { reply = None; asked = rw z i; fills = rw z p; flows = rw z q }
 
   -- M asks
   pub data_asked : (e : Executed) (q : Request) (r : Reply) → Gives (request (words.view.size old) e.access e.result e.b) (Ok (Some q)) → words.serves old q r new
@@ -46,4 +46,4 @@ module _ {D : Type 0} (words : Meaning D) (old new : D) (w : Latch Completed) (f
       → DataDone words (Full e) old new w flow
   data_asked e q r h s p z =
       let k = sym (given _ _ h) in
-      record { reply = Some r; asked = rw k s; w_so = rw k p; flow_so = rw k z }
+      record { reply = Some r; asked = rw k s; fills = rw k p; flows = rw k z }

@@ -42,7 +42,7 @@ module _ {P I : Type 0} (table : Table P) (text : Meaning I) (p : P) (f : ℕ) (
   pub fetch_passes : (flow : Flow) → fetching (text.view.size old) f flow ≡ Ok None → text.idles old new
       → went ≡ fetch_stage f d flow (Ok None) None redirect → did.fetched ≡ false → did.waits ≡ false
       → FetchDone table text p f d flow redirect old new went did
-  fetch_passes flow e i w h k = record { answer = None; asked = rw e i; went_so = rw e w; fetched_so = rw e h; waits_so = k }
+  fetch_passes flow e i w h k = record { answer = None; asked = rw e i; goes = rw e w; fetched = rw e h; waits = k }
 
   fetching_by : (r : Result Unit Cause) → Gives (fetchable (text.view.size old) f) r → fetching (text.view.size old) f Moves ≡ asked_if_so f r
   fetching_by r h = asked_so f (f % 4 == 0) (nat_lt f (text.view.size old)) ∙ ap (asked_if_so f) (sym (given _ _ h))
@@ -54,7 +54,7 @@ module _ {P I : Type 0} (table : Table P) (text : Meaning I) (p : P) (f : ℕ) (
       → FetchDone table text p f d Moves redirect old new went did
   fetch_refused c h i w k z =
       let e = fetching_by (Err c) h in
-      record { answer = None; asked = rw e i; went_so = rw e w; fetched_so = rw e k; waits_so = z }
+      record { answer = None; asked = rw e i; goes = rw e w; fetched = rw e k; waits = z }
 
   -- the word at F is asked for
   pub fetch_asked : (r : Reply) → Gives (fetchable (text.view.size old) f) (Ok tt) → text.serves old (Read f) r new
@@ -63,4 +63,4 @@ module _ {P I : Type 0} (table : Table P) (text : Meaning I) (p : P) (f : ℕ) (
       → FetchDone table text p f d Moves redirect old new went did
   fetch_asked r h s a b k z =
       let e = fetching_by (Ok tt) h in
-      record { answer = Some r; asked = rw e s; went_so = rw e (same_out went (placed f (arrival table p f (Some r))) a b); fetched_so = rw e k; waits_so = z }
+      record { answer = Some r; asked = rw e s; goes = rw e (same_out went (placed f (arrival table p f (Some r))) a b); fetched = rw e k; waits = z }

@@ -15,13 +15,13 @@ use Rattle.clocking.specs.declared.stage.Flow.{Flow}
 use Rattle.clocking.specs.declared.state.Core.{Core}
 use Rattle.clocking.specs.declared.state.Event.{Event}
 
--- what decode makes of latches of which W and M are filled already: m and w are those as they were, and the flows say what became of M and X
+-- the decode stage once W and M are filled: m and w are what they held before, and the flows are those of M and X
 abbrev pub decoded : Flow → Flow → Latch Executed → Latch Completed → Registers → Latches → DecodeOut
 decoded by-data by-execute m w g k = decode_stage (values_in_flight (x_result by-data k.m) m k.w w g) k.x k.d by-execute
 
 -- the latches with X filled
 abbrev pub with_x : Latches → Latch Decoded → Latches
-with_x k x = record { f = k.f; d = k.d; x = x; m = k.m; w = k.w }
+with_x k x = record k { x = x }
 
 -- the clock that the rule has; a core that has stopped or has made all its clocks stays as it is
 abbrev pub Cycles : {P I D : Type 0} → Table P → Meaning I → Meaning D → Core P I D → Option Event → Core P I D → Type 0

@@ -8,10 +8,10 @@ use Rattle.clocking.specs.declared.latch.Executed.{Executed}
 use Rattle.clocking.specs.declared.latch.Latch.{Latch}
 use Rattle.clocking.specs.declared.stage.Flow.{Flow}
 
--- the data stage on m: the memory old is then new, w goes to W, and flow says what became of M
+-- the data stage on m takes the memory from old to new, fills W with w, and flow is that of M
 pub record DataDone {D : Type 0} (words : Meaning D) (m : Latch Executed) (old new : D)
     (w : Latch Completed) (flow : Flow) : Type 0 where
   pub reply : Option Reply
   pub asked : Asked words old (sent (data_request (words.view.size old) m)) reply new
-  pub w_so : w ≡ (data_stage m (data_request (words.view.size old) m) reply).w
-  pub flow_so : flow ≡ (data_stage m (data_request (words.view.size old) m) reply).flow
+  pub fills : w ≡ (data_stage m (data_request (words.view.size old) m) reply).w
+  pub flows : flow ≡ (data_stage m (data_request (words.view.size old) m) reply).flow

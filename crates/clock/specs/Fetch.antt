@@ -22,8 +22,8 @@ pub record FetchDone {P I : Type 0} (table : Table P) (text : Meaning I) (p : P)
     (did : Fetching) : Type 0 where
   pub answer : Option Reply
   pub asked : Asked text old (sent (fetching (text.view.size old) f flow)) answer new
-  pub went_so : went ≡ fetch_stage f d flow (fetching (text.view.size old) f flow)
+  pub goes : went ≡ fetch_stage f d flow (fetching (text.view.size old) f flow)
       (arrival table p f answer) redirect
-  pub fetched_so : did.fetched ≡ has_fetched (fetching (text.view.size old) f flow)
+  pub fetched : did.fetched ≡ has_fetched (fetching (text.view.size old) f flow)
       (arrival table p f answer)
-  pub waits_so : did.waits ≡ is_wait answer
+  pub waits : did.waits ≡ is_wait answer

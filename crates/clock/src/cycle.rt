@@ -69,8 +69,13 @@ fn decode(
     registers: &Registers,
     latches: &mut Latches,
 ) -> Flow
-    ensures latches { (old_m : Latch Executed) (old_w : Latch Completed) → m ≡ rd_of old_m → w ≡ written_of old_w → latches.new ≡ with_x latches.old (decoded completes executes old_m old_w registers.now latches.old).x }
-    ensures flow { (old_m : Latch Executed) (old_w : Latch Completed) → m ≡ rd_of old_m → w ≡ written_of old_w → result ≡ (decoded completes executes old_m old_w registers.now latches.old).flow }
+    ensures latches { (old_m : Latch Executed) (old_w : Latch Completed)
+        → m ≡ rd_of old_m → w ≡ written_of old_w
+        → latches.new ≡ with_x latches.old
+        (decoded completes executes old_m old_w registers.now latches.old).x }
+    ensures flow { (old_m : Latch Executed) (old_w : Latch Completed)
+        → m ≡ rd_of old_m → w ≡ written_of old_w
+        → result ≡ (decoded completes executes old_m old_w registers.now latches.old).flow }
 {
     let in_flight = InFlight {
         flow: completes,
@@ -127,11 +132,12 @@ fn advance<P: Predictor, I: Memory, D: Memory>(core: &mut Core<P, I, D>) -> Even
     event
 }
 
-/// One clock: what it does to the core, and what it tells. A core that has stopped or has made all its clocks stays as it
-/// is, and tells nothing.
+/// One clock of the core, and its event. A core that has stopped or has made all its clocks stays as it is, and there is
+/// no event.
 #[inline(always)]
 pub fn checked_cycle<P: Predictor, I: Memory, D: Memory>(core: &mut Core<P, I, D>) -> Option<Event>
-    ensures cycles { Cycles P.Predictor.table I.Memory.means D.Memory.means core.old result core.new }
+    ensures cycles { Cycles P.Predictor.table I.Memory.means D.Memory.means
+        core.old result core.new }
     ensures laws { IfSome result (λ e.
         ClockLaws P.Predictor.table I.Memory.means D.Memory.means core.old e core.new) }
 {

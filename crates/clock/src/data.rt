@@ -29,7 +29,7 @@ fn complete(e: &Executed, value: u32, w: &mut Latch<Completed>) -> Flow
     Flow::Moves
 }
 
-/// What became of M while the memory says Wait.
+/// M stays while the memory says Wait.
 #[inline(always)]
 fn wait(w: &mut Latch<Completed>) -> Flow
     ensures w { w.new ≡ Empty }
@@ -39,7 +39,7 @@ fn wait(w: &mut Latch<Completed>) -> Flow
     Flow::Stays
 }
 
-/// What became of M by the answer to its read.
+/// M by the answer to its read.
 #[inline(always)]
 fn after_read(e: &Executed, answer: Result<u32, Unserved>, w: &mut Latch<Completed>) -> Flow
     ensures w { w.new ≡ (answered e.now (Some (of_read answer))).w }
@@ -52,7 +52,7 @@ fn after_read(e: &Executed, answer: Result<u32, Unserved>, w: &mut Latch<Complet
     }
 }
 
-/// What became of M by the answer to its write.
+/// M by the answer to its write.
 #[inline(always)]
 fn after_write(e: &Executed, answer: Result<(), Unserved>, w: &mut Latch<Completed>) -> Flow
     ensures w { w.new ≡ (answered e.now (Some (of_write answer))).w }

@@ -8,7 +8,7 @@ use clocking::stage::Flow;
 use rv32i::cause::Cause;
 use sequential::record::Stop;
 
-/// What became of X; after a wrong guess, where fetching has to go on.
+/// The flow of X, and after a wrong guess the address to fetch.
 #[derive(Clone, Copy)]
 pub struct Executing {
     pub flow: Flow,
@@ -28,7 +28,7 @@ impl From<Flow> for Executing {
     }
 }
 
-/// What the instruction comes to, or why it may not.
+/// The instruction with its result, or its cause.
 #[inline(always)]
 pub fn execute(d: &Decoded) -> Result<Executed, Cause>
     ensures { Gives (execute d.now) result }

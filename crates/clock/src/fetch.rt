@@ -16,7 +16,7 @@ use rv32i::cause::Cause;
 use rv32i_words::memo::Memo;
 use sequential::record::Stop;
 
-/// What became of a fetch: whether an instruction was put into D, and whether the instruction memory said Wait.
+/// Whether a fetch put an instruction into D, and whether the instruction memory said Wait.
 #[derive(Clone, Copy)]
 pub struct Fetching {
     pub fetched: bool,
@@ -54,9 +54,12 @@ fn place<P: Predictor>(
     f: &mut u32,
     d: &mut Latch<Fetched>,
 ) -> Fetching
-    ensures f { f.new ≡ (placed f.old (arrival P.Predictor.table predictor.now f.old (Some (of_read answer)))).f }
-    ensures d { d.new ≡ (placed f.old (arrival P.Predictor.table predictor.now f.old (Some (of_read answer)))).d }
-    ensures fetched { result.fetched ≡ is_some (arrival P.Predictor.table predictor.now f.old (Some (of_read answer))) }
+    ensures f { f.new ≡ (placed f.old
+        (arrival P.Predictor.table predictor.now f.old (Some (of_read answer)))).f }
+    ensures d { d.new ≡ (placed f.old
+        (arrival P.Predictor.table predictor.now f.old (Some (of_read answer)))).d }
+    ensures fetched { result.fetched
+        ≡ is_some (arrival P.Predictor.table predictor.now f.old (Some (of_read answer))) }
     ensures waits { result.waits ≡ is_wait (Some (of_read answer)) }
 {
     match answer {
@@ -99,7 +102,8 @@ pub fn fetch_stage<P: Predictor, I: Memory>(
     f: &mut u32,
     d: &mut Latch<Fetched>,
 ) -> Fetching
-    ensures { FetchDone P.Predictor.table I.Memory.means predictor.now f.old d.old flow redirect instructions.old instructions.new (record { f = f.new; d = d.new }) result }
+    ensures { FetchDone P.Predictor.table I.Memory.means predictor.now f.old d.old flow redirect
+        instructions.old instructions.new (record { f = f.new; d = d.new }) result }
 {
     match flow {
         Flow::RollsBack => {

@@ -8,7 +8,7 @@ use rv32i::cause::Cause;
 use rv32i::micro_op::MicroOp;
 use rv32i::target::Target;
 
-/// A branch that retires teaches the predictor what became of it.
+/// A branch that retires teaches the predictor its outcome.
 #[inline(always)]
 pub fn teach<P: Predictor>(predictor: &mut P, outcome: Option<Outcome>)
     ensures { Taught P.Predictor.table predictor.old outcome predictor.new }

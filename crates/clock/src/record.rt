@@ -1,4 +1,4 @@
-//! What a clock tells of itself.
+//! The record of a clock.
 ghost use Rattle.std.specs.Prelude.{◌≡◌, false, ◌&&◌};
 ghost use Rattle.clocking.specs.Clock.{clock_record};
 ghost use Rattle.clock.specs.Record.{AddressOf};
@@ -41,10 +41,16 @@ pub const STOP: Notes = Notes {
     ..Notes::NONE
 };
 
-/// The notes of a clock that moves on, by what became of M, X and D and whether the instruction memory said Wait. A hazard
-/// keeps D where X moved on.
+/// The notes of a clock that moves on, by the flows of M, X and D and whether the instruction memory said Wait. A hazard
+/// keeps D where X moves.
 pub fn notes(data: Flow, execute: Flow, decode: Flow, fetch_wait: bool) -> Notes
-    ensures { result ≡ record { fetch_wait = fetch_wait; hazard = moves execute && stays decode; data_wait = stays «data»; rollback = rolls_back decode; stop = false } }
+    ensures { result ≡ record {
+      fetch_wait = fetch_wait;
+      hazard = moves execute && stays decode;
+      data_wait = stays «data»;
+      rollback = rolls_back decode;
+      stop = false;
+    } }
 {
     Notes {
         fetch_wait,

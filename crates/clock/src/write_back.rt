@@ -32,7 +32,7 @@ pub fn retirement_of(w: &Latch<Completed>) -> Option<Retirement>
     }
 }
 
-/// What became of the branch that retires, if it is one.
+/// The outcome of the branch that retires, if it is one.
 #[inline(always)]
 pub fn outcome_of(w: &Latch<Completed>) -> Option<Outcome>
     ensures { result ≡ outcome_of (retirement_of w.now) }

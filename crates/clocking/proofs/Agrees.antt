@@ -109,12 +109,12 @@ module _ {P I D : Type 0} (table : Table P) (instructions : Meaning I) (words : 
     text_worn : Worn answer (sent (plans size text g m.latches reply)) (instructions.view.waits m.instructions) (instructions.view.waits n.instructions)
     text_size : instructions.view.size n.instructions ≡ text
     text_longest : instructions.view.longest n.instructions ≡ instructions.view.longest m.instructions
-    registers_so : n.registers ≡ g
-    latches_so : n.latches ≡ latches_after size text g m.latches reply (arrival table n.predictor m.latches.f answer)
+    registers : n.registers ≡ g
+    latches : n.latches ≡ latches_after size text g m.latches reply (arrival table n.predictor m.latches.f answer)
     runs_on : n.stopped ≡ None
     counted : Counted m.counts (has_fetched (plans size text g m.latches reply) (arrival table n.predictor m.latches.f answer)) (is_some (retirement_of m.latches.w))
         (dropped m.latches (completes size m.latches reply).flow (executes size m.latches reply).flow) n.counts
-    retires_so : e.retirement ≡ retirement_of m.latches.w
+    retirement : e.retirement ≡ retirement_of m.latches.w
     not_stop : e.clock.notes.stop ≡ false
 
   goes : (m : Core P I D) (e : Event) (n : Core P I D) → Moved table instructions words m e n
@@ -134,12 +134,12 @@ module _ {P I D : Type 0} (table : Table P) (instructions : Meaning I) (words : 
         text_worn = b.worn;
         text_size = b.size;
         text_longest = b.longest;
-        registers_so = refl;
-        latches_so = h.latches_so;
+        registers = refl;
+        latches = h.latches;
         runs_on = h.runs_on;
         counted = h.counted;
-        retires_so = ap (λ (e : Event). e.retirement) h.told_so;
-        not_stop = ap (λ (e : Event). e.clock.notes.stop) h.told_so;
+        retirement = ap (λ (e : Event). e.retirement) h.event;
+        not_stop = ap (λ (e : Event). e.clock.notes.stop) h.event;
       }
 
   known : (h : List Event) (m : Core P I D) (e : Event) (n : Core P I D) → Kept h m → Moved table instructions words m e n
@@ -147,7 +147,7 @@ module _ {P I D : Type 0} (table : Table P) (instructions : Meaning I) (words : 
   known h m e n k w =
       subst (λ (z : ℕ). Goes z world.text_size (written_back m.registers m.latches.w) m e n) k.data_size
       (subst (λ (z : ℕ). Goes (words.view.size m.«data») z (written_back m.registers m.latches.w) m e n) k.text_size
-      (subst (λ (z : Registers). Goes (words.view.size m.«data») (instructions.view.size m.instructions) z m e n) w.registers_so (goes m e n w)))
+      (subst (λ (z : Registers). Goes (words.view.size m.«data») (instructions.view.size m.instructions) z m e n) w.registers (goes m e n w)))
 
   module _ (h : List Event) (m : Core P I D) (e : Event) (n : Core P I D) (k : Kept h m) (l : Live h k.reached m) (flows : Flows m.latches.w)
       (w : Goes world.data_size world.text_size (written_back m.registers m.latches.w) m e n) where
@@ -193,16 +193,16 @@ module _ {P I D : Type 0} (table : Table P) (instructions : Meaning I) (words : 
     lull_next = lulls table fixed clock m.latches (w.text_served, w.text_worn)
 
     produces : productive e ≡ is_some (retirement_of m.latches.w)
-    produces = rw (w.retires_so, w.not_stop) (or-false (is_some (retirement_of m.latches.w)))
+    produces = rw (w.retirement, w.not_stop) (or-false (is_some (retirement_of m.latches.w)))
 
     abbrev budgeted : (productive e ≡ false → 2 ≤ allowed h) × (ends ≤ cond (productive e) bound (allowed h - 1))
     budgeted = budget bound (count fixed (waits m) m.latches) ends (allowed h) m.latches.w (productive e) produces falls (least_one fixed (waits n) next) l.in_budget
 
     live_next : (t : State) → Chain world t (words.view.byte n.«data») g next → Live (h ++ e ∷ []) t n
     live_next t c = record {
-      chain = rw (w.registers_so, w.latches_so) c;
-      lull = rw w.latches_so lull_next;
-      in_budget = rw (w.latches_so, left_more bound first_bound h e) budgeted.1;
+      chain = rw (w.registers, w.latches) c;
+      lull = rw w.latches lull_next;
+      in_budget = rw (w.latches, left_more bound first_bound h e) budgeted.1;
     }
 
     accounted_next : m.stopped ≡ None → m.counts.clocks < 4294967295 → Accounted table instructions words first (h ++ e ∷ []) n
@@ -212,24 +212,24 @@ module _ {P I D : Type 0} (table : Table P) (instructions : Meaning I) (words : 
         let c = dropped_most m.latches (completes world.data_size m.latches w.reply).flow (executes world.data_size m.latches w.reply).flow in
         let o = retires_count m.latches.w flows in
         let d = m.counts.ok.0 in
-        let f1 = w.counted.fetched_so in
-        let r1 = w.counted.retired_so in
-        let d1 = w.counted.dropped_so in
-        let c1 = w.counted.clocks in
+        let f1 = w.counted.fetched_count in
+        let r1 = w.counted.retired_count in
+        let d1 = w.counted.dropped_count in
+        let c1 = w.counted.clock_count in
         let before : m.counts.fetched ≡ m.counts.retired + m.counts.dropped + in_flight_count m.latches + 0 = rw runs at a.balanced in
         let hr = a.retired_count in
         let hc = a.clock_count in
         record {
-          taught = taught_more table first.predictor m.predictor n.predictor h e a.taught (rw w.retires_so w.taught);
-          balanced = rw (w.latches_so, w.runs_on) (omega arith);
-          retired_count = rw (retired_more h e, w.retires_so) (omega arith);
+          taught = taught_more table first.predictor m.predictor n.predictor h e a.taught (rw w.retirement w.taught);
+          balanced = rw (w.latches, w.runs_on) (omega arith);
+          retired_count = rw (retired_more h e, w.retirement) (omega arith);
           clock_count = rw (length_more h e) (omega arith);
         }
 
     kept_at : (t : State) → Retires world k.reached m.latches.w t → Live (h ++ e ∷ []) t n → m.stopped ≡ None → m.counts.clocks < 4294967295 → Kept (h ++ e ∷ []) n
     kept_at t r live runs spent = record {
       reached = t;
-      steps = rw (retirements_more h e, w.retires_so) (stepped world start k.reached t m.latches.w (retirements h) k.steps r);
+      steps = rw (retirements_more h e, w.retirement) (stepped world start k.reached t m.latches.w (retirements h) k.steps r);
       registers = live.chain.registers;
       stops = rw w.runs_on tt;
       bytes = bytes_from world t (words.view.byte n.«data») n.latches.w live.chain.w live.chain.memory;
@@ -259,24 +259,24 @@ module _ {P I D : Type 0} (table : Table P) (instructions : Meaning I) (words : 
       let bytes : BytesSo world k.reached (Faulting stop) (words.view.byte m.«data») = subst (λ z. BytesSo world k.reached z (words.view.byte m.«data»)) fault k.bytes in
       let i = il.idle _ _ w.text_idle in
       let j = dl.idle _ _ w.data_idle in
-      let none : e.retirement ≡ None = ap (λ (e : Event). e.retirement) w.told_so in
-      let stops : e.clock.notes.stop ≡ true = ap (λ (e : Event). e.clock.notes.stop) w.told_so in
+      let none : e.retirement ≡ None = ap (λ (e : Event). e.retirement) w.event in
+      let stops : e.clock.notes.stop ≡ true = ap (λ (e : Event). e.clock.notes.stop) w.event in
       let count1 : in_flight_count m.latches ≡ occupied m.latches.d + occupied m.latches.x + occupied m.latches.m + 1 = ap (λ z. occupied m.latches.d + occupied m.latches.x + occupied m.latches.m + occupied z) fault in
       let before : m.counts.fetched ≡ m.counts.retired + m.counts.dropped + in_flight_count m.latches + 0 = rw runs at a.balanced in
       let d = m.counts.ok.0 in
-      let f1 = w.counted.fetched_so in
-      let r1 = w.counted.retired_so in
-      let d1 = w.counted.dropped_so in
-      let c1 = w.counted.clocks in
+      let f1 = w.counted.fetched_count in
+      let r1 = w.counted.retired_count in
+      let d1 = w.counted.dropped_count in
+      let c1 = w.counted.clock_count in
       let hr = a.retired_count in
       let hc = a.clock_count in
       record {
         reached = k.reached;
         steps = rw (retirements_more h e, none, append-nil (retirements h)) k.steps;
         registers = w.same_registers ∙ k.registers;
-        stops = rw w.stops_so (here.0, step_stops world k.reached stop.cause (sym here.1));
-        bytes = rw w.latches_so (fun_ext j.byte ∙ bytes);
-        live = subst (λ (z : Option Stop). LiveIf z (h ++ e ∷ []) k.reached n) (sym w.stops_so) tt;
+        stops = rw w.stops (here.0, step_stops world k.reached stop.cause (sym here.1));
+        bytes = rw w.latches (fun_ext j.byte ∙ bytes);
+        live = subst (λ (z : Option Stop). LiveIf z (h ++ e ∷ []) k.reached n) (sym w.stops) tt;
         data_size = j.size ∙ k.data_size;
         text_size = i.size ∙ k.text_size;
         text = fun_ext i.byte ∙ k.text;
@@ -285,7 +285,7 @@ module _ {P I D : Type 0} (table : Table P) (instructions : Meaning I) (words : 
         paced = paced_more bound first_bound h e k.paced (λ z. cc);
         accounted = record {
           taught = taught_more table first.predictor m.predictor n.predictor h e a.taught (rw none w.same_predictor);
-          balanced = rw (w.latches_so, w.stops_so) (omega arith);
+          balanced = rw (w.latches, w.stops) (omega arith);
           retired_count = rw (retired_more h e, none) (omega arith);
           clock_count = rw (length_more h e) (omega arith);
         };

@@ -14,7 +14,7 @@ use Rattle.clocking.specs.declared.latch.Latch.TheVariants.{Empty, Faulting, Ful
 use Rattle.clocking.specs.declared.latch.Latches.{Latches}
 use Rattle.clocking.proofs.Partial.{fetched_at, decoded_at, executed_at, completed_at, after_at}
 
--- where the chain has come to: a state, or it is broken
+-- what the chain reaches: a state, or it is broken
 abbrev pub Reach : Type 0
 Reach = Result State Cause
 
@@ -33,7 +33,7 @@ pub faults_on : {T U : Type 0} (h : State → Result T Cause) (k : State → Res
 faults_on h k same (Err z) stop i = tt
 faults_on h k same (Ok s) stop i = (i.0, same s stop.cause i.1)
 
--- the latch holds what the state's instruction comes to; past a break nothing is said
+-- the latch holds what the stage before it makes of the state's instruction; past a break nothing is said
 abbrev pub Holds : {T : Type 0} → (State → T → Result T Cause) → (State → Result T Cause) → Reach → Latch T → Type 0
 Holds f h r (Faulting stop) = Faults h r stop
 Holds f h (Ok s) (Full x) = Ok x ≡ f s x

@@ -62,7 +62,7 @@ module _ (fixed : Memories) (left : Waits) where
   LulledBy (Full c) Empty Empty Empty f = fetch_waits fixed left f < fixed.text_longest
   LulledBy w m x d f = Unit {0}
 
-  -- an empty pipeline behind W has just been told to wait for its next instruction
+  -- an empty pipeline behind W waits for its next instruction already
   abbrev pub Lulled : Latches → Type 0
   Lulled k = LulledBy k.w k.m k.x k.d k.f
 
@@ -192,7 +192,7 @@ module _ {P : Type 0} (table : Table P) (fixed : Memories) (clock : Clock table 
   waits_few (Some q) = clock.text_patient q
 
   module _ (f : ℕ) where
-    -- a fetch puts an instruction into D, or is told to wait, which lowers what is left
+    -- a fetch puts an instruction into D, or has to wait, which lowers what is left
     abbrev Arrived : FetchOut → Type 0
     Arrived o = Filled o.d ⊎ ((o.d ≡ Empty) × (o.f ≡ f) × (fetching_waits_then f < fetching_waits f))
 

@@ -33,7 +33,7 @@ abbrev pub Back : Flow → Reach → Type 0
 Back RollsBack r = Broken r
 Back flow r = Unit {0}
 
--- what the reply makes of M is what the instruction comes to
+-- what the reply makes of M is what the step of the sequential machine has
 abbrev Completes : State → (ℕ → ℕ) → Executed → ℕ → Result Done Cause → Type 0
 Completes s n e v o = (Ok (complete e v) ≡ then o (λ d. Ok (complete d.run d.value))) × (n ≡ bytes_at s (then o (λ d. Ok (moved s d))))
 

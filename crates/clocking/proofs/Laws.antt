@@ -41,7 +41,7 @@ use Rattle.clocking.specs.declared.state.Event.{Event}
 use Rattle.clocking.proofs.LawsFlow.{Heard, heard, asks_same, data_flow, data_flows, apart, m_reads, execute_flow, execute_flows, XReady, x_gives, redirects, decode_flow, youngest_of, w_reads, stuck, passed, moves_by}
 use Rattle.clocking.proofs.LawsFlight.{left, data_line, execute_line, decode_line, new_if, new_either, new_length, From, fetch_line, in_line, goes_to_w, goes_to_m, splits, gone_length, d_length, x_length}
 
--- ---- the flows, of tests. c: M has a cause; w: it is told to wait; h: X is held; g: its guess is wrong; i: D is held; z: it lacks an operand
+-- ---- the flows, of tests. c: M has a cause; w: it has to wait; h: X is held; g: its guess is wrong; i: D is held; z: it lacks an operand
 
 abbrev Rolls : Bool → Bool → Bool → Bool
 Rolls c w g = c || (not c && not w && g)
@@ -332,7 +332,7 @@ module _ (size text : ℕ) (k : Latches) (g : Registers) (reply : Option Reply) 
   decoding_so = record {
     rolls_back = λ e. decode_at RollsBack (two_flow ∙ two_rolls c w held wrong e);
     stays = λ e. decode_at Stays (two_flow ∙ two_stays c w held wrong exclusive e) ∙ stays_with k.x k.d;
-    stalls_so = λ e.
+    hazard = λ e.
         let p = both (Free c w held wrong) short e in
         decode_at Moves (two_flow ∙ two_moves c w held wrong p.0) ∙ moved_short short (in_x size k reply (value_of g) k.d) _ (moves_so p.0) p.1;
     moves = λ e i. decode_at Moves (two_flow ∙ two_moves c w held wrong e) ∙ moved_on short (in_x size k reply (value_of g) k.d) _ (moves_so e) i;
@@ -432,9 +432,9 @@ module _ (size text : ℕ) (k : Latches) (g : Registers) (reply : Option Reply) 
       before = before_so;
       after = after_so i;
       fetches_at = new_either k.f (has_fetched (plans size text g k reply) x);
-      retired_so = q.retired_so ∙ ap (λ z. a.retired + z) e;
-      dropped_so = q.dropped_so ∙ ap (λ z. (a.dropped + z) % 2 ^ 32) dropped_by;
-      fetched_so = q.fetched_so ∙ ap (λ z. a.fetched + z) (new_length k.f (has_fetched (plans size text g k reply) x));
+      retired_count = q.retired_count ∙ ap (λ z. a.retired + z) e;
+      dropped_count = q.dropped_count ∙ ap (λ z. (a.dropped + z) % 2 ^ 32) dropped_by;
+      fetched_count = q.fetched_count ∙ ap (λ z. a.fetched + z) (new_length k.f (has_fetched (plans size text g k reply) x));
     }
 
   module _ {P : Type 0} (table : Table P) (p : P) (answer : Option Reply) (i : Heard (sent (plans size text g k reply)) answer) where
@@ -490,32 +490,32 @@ module _ {P I D : Type 0} (table : Table P) (instructions : Meaning I) (words : 
         runs_on = h.runs_on;
         data_asked = subst (λ q. Asked words m.«data» q h.reply n.«data») (asks_same size k.m) h.data_asked;
         text_asked = subst (λ q. Asked instructions m.instructions q h.answer n.instructions) (sent_text size text k g h.reply asked) h.text_asked;
-        decoding = subst (λ l. Decoding size k h.reply (value_of g) l.x) (sym h.latches_so) (decoding_so size text k g h.reply asked);
+        decoding = subst (λ l. Decoding size k h.reply (value_of g) l.x) (sym h.latches) (decoding_so size text k g h.reply asked);
         fetching =
-            subst (λ l. Fetching size k h.reply text (λ w. guess_of table n.predictor k.f (decoded w)) h.answer l) (sym h.latches_so)
+            subst (λ l. Fetching size k h.reply text (λ w. guess_of table n.predictor k.f (decoded w)) h.answer l) (sym h.latches)
             (fetching_so size text k g h.reply asked table n.predictor h.answer planned);
         flights =
-            subst (λ l. Flight size k h.reply m.counts l n.counts) (sym h.latches_so)
+            subst (λ l. Flight size k h.reply m.counts l n.counts) (sym h.latches)
             (flight_so size text k g h.reply asked (arrival table n.predictor k.f h.answer) (from_f table n.predictor k.f h.answer) m.counts n.counts (is_some (retirement_of k.w)) r.1 h.counted);
-        retires = ap (λ e. is_some e.retirement) h.told_so ∙ r.0;
-        notes_so = ap (λ e. e.clock.notes) h.told_so ∙ notes_by size text k g h.reply asked h.answer;
+        retires = ap (λ e. is_some e.retirement) h.event ∙ r.0;
+        notes = ap (λ e. e.clock.notes) h.event ∙ notes_by size text k g h.reply asked h.answer;
       }
 
   halted_laws : (stop : Stop) (m : Core P I D) (e : Event) (n : Core P I D) → m.latches.w ≡ Faulting stop → Halted table instructions words stop m e n
       → Ending table instructions words stop m e n
   halted_laws stop m e n f h = record {
-    stops = h.stops_so;
+    stops = h.stops;
     data_idles = h.data_idle;
     text_idles = h.text_idle;
     flights =
         ap (λ w. at_w w ++ (at_m m.latches.m ++ (at_x m.latches.x ++ at_d m.latches.d))) f
-        ∙ ap (λ l. stop.address ∷ flight l) (sym h.latches_so);
-    stays = ap (λ l. l.f) h.latches_so;
-    fetched_so = let q = h.counted.fetched_so in omega arith;
-    retired_so = let q = h.counted.retired_so in omega arith;
-    dropped_so = let q = h.counted.dropped_so in omega arith;
-    retires = ap (λ e. e.retirement) h.told_so;
-    notes_so = ap (λ e. e.clock.notes) h.told_so;
+        ∙ ap (λ l. stop.address ∷ flight l) (sym h.latches);
+    stays = ap (λ l. l.f) h.latches;
+    fetched_count = let q = h.counted.fetched_count in omega arith;
+    retired_count = let q = h.counted.retired_count in omega arith;
+    dropped_count = let q = h.counted.dropped_count in omega arith;
+    retires = ap (λ e. e.retirement) h.event;
+    notes = ap (λ e. e.clock.notes) h.event;
   }
 
   laws_by : (w : Latch Completed) (m : Core P I D) (e : Event) (n : Core P I D) → m.latches.w ≡ w

@@ -171,7 +171,7 @@ in_line w m x sm sx sd old lx ld new a b c =
     ap (λ l. w ++ (m ++ l)) third ∙ ap (λ l. w ++ l) second ∙ first
     ∙ ap (λ l. old ++ l) (sym (append_assoc lx ld new)) ∙ sym (append_assoc old (lx ++ ld) new)
 
--- c: M has a cause; w: it is told to wait; h: X is held; g: its guess is wrong
+-- c: M has a cause; w: it has to wait; h: X is held; g: its guess is wrong
 abbrev gone : Bool → Bool → Bool → List ℕ → List ℕ → List ℕ
 gone c w g x d = cond c (x ++ d) (cond (not c && not w && g) d [])
 

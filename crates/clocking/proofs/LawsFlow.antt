@@ -50,7 +50,7 @@ pub asks_same : (size : ℕ) (m : Latch Executed) → sent (data_request size m)
 asks_same size (Full e) = same_by (request size e.access e.result e.b)
 asks_same size m = refl
 
--- ---- data: whether M has a cause, and whether it is told to wait
+-- ---- data: whether M has a cause, and whether it has to wait
 
 abbrev pub data_flow : Bool → Bool → Flow
 data_flow true w = RollsBack
@@ -79,7 +79,7 @@ told_apart (Ok q) r h = refl
 told_apart (Err c) None h = refl
 told_apart (Err c) (Some r) h = absurd h
 
--- what has a cause is not told to wait
+-- what has a cause does not have to wait
 pub apart : (size : ℕ) (m : Latch Executed) (r : Option Reply) → Heard (sent (data_request size m)) r → m_is_refused size m && is_wait r ≡ false
 apart size Empty r h = refl
 apart size (Faulting stop) None h = refl

@@ -1,4 +1,4 @@
--- What the sequential machine's instruction at a state comes to, stage by stage, in the terms of the latches. Assumes nothing.
+-- The step of the sequential machine at a state, cut into the stages, in the terms of the latches. Assumes nothing.
 use Rattle.std.proofs.Common.{◌≡◌, ℕ, Ok, Err, Option, Result, refl, ap, ◌∙◌}
 use Rattle.base.specs.declared.bus.Request.{Request}
 use Rattle.rv32i.specs.Effects.{destination, executed, access, request}

@@ -25,7 +25,7 @@ abbrev pub retirements : List Event → List Retirement
 retirements [] = []
 retirements (e ∷ h) = listed e.retirement ++ retirements h
 
--- what became of the retired branches
+-- the outcomes of the retired branches
 abbrev pub outcomes : List Retirement → List Outcome
 outcomes [] = []
 outcomes (r ∷ rs) = listed r.outcome ++ outcomes rs
@@ -37,7 +37,7 @@ retires e = is_some e.retirement
 abbrev pub productive : Event → Bool
 productive e = retires e || e.clock.notes.stop
 
--- among the first n clocks, if so many were made, is one with a retirement or the stop
+-- if n clocks or more were made, one of the first n has a retirement or the stop
 abbrev pub Soon : ℕ → List Event → Type 0
 Soon n h = n ≤ length h → (a : List Event) × (e : Event) × (b : List Event) × (h ≡ a ++ e ∷ b) × (length a < n) × (productive e ≡ true)
 

@@ -55,7 +55,7 @@ module _ (size : ℕ) where
     w = (completes k reply).w;
   }
 
--- ---- what a clock tells of itself
+-- ---- the record of a clock
 
 abbrev pub address_of : {T : Type 0} → (T → ℕ) → Latch T → Option ℕ
 address_of f Empty = None
@@ -95,16 +95,16 @@ module _ {P I D : Type 0} (table : Table P) (instructions : Meaning I) (words : 
     pub answer : Option Reply
     pub taught : Taught table m.predictor (outcome_of (retirement_of m.latches.w)) n.predictor
     pub data_asked : Asked words m.«data» (sent (data_request (words.view.size m.«data») m.latches.m)) reply n.«data»
-    pub registers_so : n.registers ≡ written_back m.registers m.latches.w
+    pub registers : n.registers ≡ written_back m.registers m.latches.w
     pub text_asked : Asked instructions m.instructions (sent (plans (words.view.size m.«data») (instructions.view.size m.instructions) n.registers m.latches reply)) answer n.instructions
-    pub latches_so : n.latches ≡ latches_after (words.view.size m.«data») (instructions.view.size m.instructions) n.registers m.latches reply (arrival table n.predictor m.latches.f answer)
+    pub latches : n.latches ≡ latches_after (words.view.size m.«data») (instructions.view.size m.instructions) n.registers m.latches reply (arrival table n.predictor m.latches.f answer)
     pub runs_on : n.stopped ≡ None
     pub counted : Counted m.counts
         (has_fetched (plans (words.view.size m.«data») (instructions.view.size m.instructions) n.registers m.latches reply) (arrival table n.predictor m.latches.f answer))
         (is_some (retirement_of m.latches.w))
         (dropped m.latches (completes (words.view.size m.«data») m.latches reply).flow (executes (words.view.size m.«data») m.latches reply).flow)
         n.counts
-    pub told_so : e ≡ record {
+    pub event : e ≡ record {
       clock = clock_record n.counts.clocks m.latches (move_notes (words.view.size m.«data») n.registers m.latches reply answer);
       retirement = retirement_of m.latches.w;
     }
@@ -115,15 +115,15 @@ module _ {P I D : Type 0} (table : Table P) (instructions : Meaning I) (words : 
     pub data_idle : words.idles m.«data» n.«data»
     pub text_idle : instructions.idles m.instructions n.instructions
     pub same_registers : n.registers ≡ m.registers
-    pub latches_so : n.latches ≡ record { f = m.latches.f; d = m.latches.d; x = m.latches.x; m = m.latches.m; w = Empty }
-    pub stops_so : n.stopped ≡ Some stop
+    pub latches : n.latches ≡ record m.latches { w = Empty }
+    pub stops : n.stopped ≡ Some stop
     pub counted : Counted m.counts false false 0 n.counts
-    pub told_so : e ≡ record { clock = clock_record n.counts.clocks m.latches stop_notes; retirement = None }
+    pub event : e ≡ record { clock = clock_record n.counts.clocks m.latches stop_notes; retirement = None }
 
   abbrev pub Worked : Option Stop → Core P I D → Event → Core P I D → Type 0
   Worked None m e n = Moved m e n
   Worked (Some stop) m e n = Halted stop m e n
 
-  -- what a clock does to the core m, and what it tells
+  -- a clock takes the core m to n, and e is its event
   abbrev pub Cycled : Core P I D → Event → Core P I D → Type 0
   Cycled m e n = Worked (stop_of m.latches.w) m e n

@@ -40,11 +40,11 @@ one_if true = 1
 one_if false = 0
 
 -- d is c after a clock
-pub record Counted (c : Counts) (fetched retired : Bool) (gone : ℕ) (d : Counts) : Type 0 where
-  pub clocks : d.clocks ≡ c.clocks + 1
-  pub fetched_so : d.fetched ≡ c.fetched + one_if fetched
-  pub retired_so : d.retired ≡ c.retired + one_if retired
-  pub dropped_so : d.dropped ≡ (c.dropped + gone) % 2 ^ 32
+pub record Counted (c : Counts) (fetches retires : Bool) (gone : ℕ) (d : Counts) : Type 0 where
+  pub clock_count : d.clocks ≡ c.clocks + 1
+  pub fetched_count : d.fetched ≡ c.fetched + one_if fetches
+  pub retired_count : d.retired ≡ c.retired + one_if retires
+  pub dropped_count : d.dropped ≡ (c.dropped + gone) % 2 ^ 32
 
 abbrev pub stays : Flow → Bool
 stays Stays = true

@@ -13,7 +13,7 @@ use Rattle.clocking.specs.declared.latch.Latch.TheVariants.{Empty, Faulting, Ful
 use Rattle.clocking.specs.declared.stage.Flow.{Flow}
 use Rattle.clocking.specs.declared.stage.Flow.TheVariants.{Moves, Stays, RollsBack}
 
--- what goes to W, and what became of M
+-- W after the stage, and the flow of M
 pub record DataOut : Type 0 where
   pub w : Latch Completed
   pub flow : Flow
@@ -29,7 +29,7 @@ complete e v = record { address = e.address; word = e.word; rd = e.rd; value = v
 abbrev pub completes_with : Executed → ℕ → DataOut
 completes_with e v = record { w = Full (complete e v); flow = Moves }
 
--- by the memory's reply, none where nothing was asked; a request that is within is never told Outside
+-- by the memory's reply, none where nothing was asked; a request that is within is never Outside
 abbrev pub answered : Executed → Option Reply → DataOut
 answered e (Some (Ok (Word w))) = completes_with e (loaded e.access e.result w)
 answered e (Some (Err Wait)) = record { w = Empty; flow = Stays }

@@ -1,5 +1,5 @@
 -- The decode stage: D goes to X, with its operands. Assumes nothing.
-use Rattle.std.specs.Prelude.{ℕ, Bool, false, cond, Some, None, Ok, Err, Option, Result, ◌==◌, slice_index}
+use Rattle.std.specs.Prelude.{ℕ, Bool, false, if◌then◌else◌, Some, None, Ok, Err, Option, Result, ◌==◌, slice_index}
 use Rattle.rv32i.specs.Effects.{first_source, second_source, destination}
 use Rattle.rv32i.specs.declared.cause.Cause.{Cause}
 use Rattle.rv32i.specs.declared.effect.Access.{Access}
@@ -16,7 +16,7 @@ use Rattle.clocking.specs.declared.latch.Latch.TheVariants.{Empty, Faulting, Ful
 use Rattle.clocking.specs.declared.stage.Flow.{Flow}
 use Rattle.clocking.specs.declared.stage.Flow.TheVariants.{Moves, Stays, RollsBack}
 
--- what goes to X, and what became of D
+-- X after the stage, and the flow of D
 pub record DecodeOut : Type 0 where
   pub x : Latch Decoded
   pub flow : Flow
@@ -32,7 +32,7 @@ early (Some (Load k)) v = None
 early how v = Some v
 
 abbrev pub from_x : Latch Executed → Register → Option (Option ℕ)
-from_x (Full e) r = cond (gives e.rd r) (Some (early e.access e.result)) None
+from_x (Full e) r = if gives e.rd r then Some (early e.access e.result) else None
 from_x x r = None
 
 -- M with this clock's answer: its value, if it went to W
@@ -41,11 +41,11 @@ arrived (Full c) = Some c.value
 arrived answer = None
 
 abbrev pub from_m : Latch Executed → Latch Completed → Register → Option (Option ℕ)
-from_m (Full e) answer r = cond (gives e.rd r) (Some (arrived answer)) None
+from_m (Full e) answer r = if gives e.rd r then Some (arrived answer) else None
 from_m m answer r = None
 
 abbrev pub from_w : Latch Completed → Register → Option (Option ℕ)
-from_w (Full c) r = cond (gives c.rd r) (Some (Some c.value)) None
+from_w (Full c) r = if gives c.rd r then Some (Some c.value) else None
 from_w w r = None
 
 abbrev pub or_else : Option (Option ℕ) → Option ℕ → Option ℕ

@@ -11,7 +11,7 @@ use Rattle.clocking.specs.declared.latch.Latch.TheVariants.{Empty, Faulting, Ful
 use Rattle.clocking.specs.declared.stage.Flow.{Flow}
 use Rattle.clocking.specs.declared.stage.Flow.TheVariants.{Moves, Stays, RollsBack}
 
--- what goes to M, what became of X, and after a wrong guess where fetching has to go on
+-- M after the stage, the flow of X, and after a wrong guess the address to fetch
 pub record ExecuteOut : Type 0 where
   pub m : Latch Executed
   pub flow : Flow

@@ -1,5 +1,5 @@
 -- The fetch stage: the word at F goes to D, and F on to the guess. Assumes nothing.
-use Rattle.std.specs.Prelude.{ℕ, ◌%◌, cond, Some, None, Ok, Err, Option, Result, ◌==◌, nat_lt}
+use Rattle.std.specs.Prelude.{ℕ, ◌%◌, if◌then◌else◌, Some, None, Ok, Err, Option, Result, ◌==◌, nat_lt}
 use Rattle.base.specs.declared.bus.Request.{Request}
 use Rattle.base.specs.declared.bus.Request.TheVariants.{Read}
 use Rattle.rv32i.specs.Effects.{following}
@@ -18,7 +18,9 @@ pub record FetchOut : Type 0 where
 
 -- what is asked of an instruction memory of that size for f, or the cause that f has, by what the decode stage did with D
 abbrev pub fetching : ℕ → ℕ → Flow → Result (Option Request) Cause
-fetching size f Moves = cond (f % 4 == 0) (cond (nat_lt f size) (Ok (Some (Read f))) (Err FetchOutside)) (Err JumpMisaligned)
+fetching size f Moves =
+    if f % 4 == 0 then (if nat_lt f size then Ok (Some (Read f)) else Err FetchOutside)
+    else Err JumpMisaligned
 fetching size f flow = Ok None
 
 abbrev pub redirected : ℕ → Option ℕ → ℕ

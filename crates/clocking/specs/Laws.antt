@@ -1,4 +1,4 @@
--- What a clock may be held to: told by the latches before it and after it and by what the memories reply. Assumes nothing.
+-- The laws of a clock, by the latches before and after it and the replies of the memories. Assumes nothing.
 use Rattle.std.specs.Prelude.{◌≡◌, ℕ, ◌+◌, ◌%◌, ◌^◌, Bool, true, false, not, ◌&&◌, ◌||◌, ◌⊎◌, ◌==◌, if◌then◌else◌, List, [], ◌∷◌, ◌++◌, length, is_some, is_ok, is_err, nat_lt, Some, None, Ok, Err, Option, Result}
 use Rattle.base.specs.Bytes.{within}
 use Rattle.base.specs.declared.bus.Request.{Request}
@@ -173,7 +173,7 @@ module _ (size : ℕ) (k : Latches) (reply : Option Reply) where
   abbrev pub x_is_free : Bool
   x_is_free = not rolls && not x_stays
 
-  -- the youngest in flight that writes the register has no value yet: a load in X, or M, if it is told to wait
+  -- the youngest in flight that writes the register has no value yet: a load in X, or M, if it has to wait
   abbrev pub is_missing : Register → Bool
   is_missing r = if x_writes k.x r then x_loads k.x else m_writes k.m r && is_wait reply
 
@@ -248,7 +248,7 @@ module _ (size : ℕ) (k : Latches) (reply : Option Reply) where
     pub record Decoding (x : Latch Decoded) : Type 0 where
       pub rolls_back : rolls ≡ true → x ≡ Empty
       pub stays : x_stays ≡ true → x ≡ k.x
-      pub stalls_so : stalls ≡ true → x ≡ Empty
+      pub hazard : stalls ≡ true → x ≡ Empty
       pub moves : x_is_free ≡ true → is_short k.d ≡ false → x ≡ in_x k.d
 
   -- D and F after the clock; text is the size of the instruction memory, and guess says where it goes on after a word
@@ -276,9 +276,9 @@ module _ (size : ℕ) (k : Latches) (reply : Option Reply) where
     pub before : flight k ≡ at_w k.w ++ (kept ++ removed)
     pub after : flight n ≡ kept ++ fetched
     pub fetches_at : (fetched ≡ []) ⊎ (fetched ≡ k.f ∷ [])
-    pub retired_so : d.retired ≡ c.retired + length (at_w k.w)
-    pub dropped_so : d.dropped ≡ (c.dropped + length removed) % 2 ^ 32
-    pub fetched_so : d.fetched ≡ c.fetched + length fetched
+    pub retired_count : d.retired ≡ c.retired + length (at_w k.w)
+    pub dropped_count : d.dropped ≡ (c.dropped + length removed) % 2 ^ 32
+    pub fetched_count : d.fetched ≡ c.fetched + length fetched
 
 -- ---- the laws of a clock
 
@@ -304,7 +304,7 @@ module _ {P I D : Type 0} (table : Table P) (instructions : Meaning I) (words : 
         (λ w. guess_of table n.predictor m.latches.f (decoded w)) answer n.latches
     pub flights : Flight (data_size m) m.latches reply m.counts n.latches n.counts
     pub retires : is_some e.retirement ≡ is_held m.latches.w
-    pub notes_so : e.clock.notes ≡ record {
+    pub notes : e.clock.notes ≡ record {
       fetch_wait = is_wait answer;
       hazard = stalls (data_size m) m.latches reply;
       data_wait = is_wait reply;
@@ -319,11 +319,11 @@ module _ {P I D : Type 0} (table : Table P) (instructions : Meaning I) (words : 
     pub text_idles : instructions.idles m.instructions n.instructions
     pub flights : flight m.latches ≡ stop.address ∷ flight n.latches
     pub stays : n.latches.f ≡ m.latches.f
-    pub fetched_so : n.counts.fetched ≡ m.counts.fetched
-    pub retired_so : n.counts.retired ≡ m.counts.retired
-    pub dropped_so : n.counts.dropped ≡ m.counts.dropped % 2 ^ 32
+    pub fetched_count : n.counts.fetched ≡ m.counts.fetched
+    pub retired_count : n.counts.retired ≡ m.counts.retired
+    pub dropped_count : n.counts.dropped ≡ m.counts.dropped % 2 ^ 32
     pub retires : e.retirement ≡ None
-    pub notes_so : e.clock.notes ≡ record {
+    pub notes : e.clock.notes ≡ record {
       fetch_wait = false;
       hazard = false;
       data_wait = false;

@@ -1,5 +1,5 @@
 -- What a clock asks of the memories and of the predictor. Assumes nothing.
-use Rattle.std.specs.Prelude.{◌≡◌, ℕ, Bool, cond, List, [], ◌∷◌, Some, None, Ok, Err, Option, Result}
+use Rattle.std.specs.Prelude.{◌≡◌, ℕ, Bool, if◌then◌else◌, List, [], ◌∷◌, Some, None, Ok, Err, Option, Result}
 use Rattle.base.specs.declared.branch.Outcome.{Outcome}
 use Rattle.base.specs.declared.bus.Request.{Request}
 use Rattle.memory.specs.Meaning.{Meaning}
@@ -37,7 +37,7 @@ Taught table p (Some o) q = table q ≡ (λ later. table p (o ∷ later))
 -- where fetching goes on after an instruction at f
 abbrev pub guess_by : {P : Type 0} → Table P → P → ℕ → Target → ℕ
 guess_by table p f Next = following f
-guess_by table p f (Branch target) = cond (table p [] f target) target (following f)
+guess_by table p f (Branch target) = if table p [] f target then target else following f
 guess_by table p f (Jump target) = target
 
 -- a word that issues no instruction leads nowhere else

@@ -1,4 +1,4 @@
-//! The state of a pipeline, and what a clock tells of itself.
+//! The state of a pipeline, and the record of a clock.
 use crate::counts::Counts;
 use crate::latch::Latches;
 use memory::Memory;

@@ -45,8 +45,8 @@ gaps_hear g es k (one_more {es = fs} {l = i} e q h f a) =
 module _ {P I D : Type 0} (table : Table P) (instructions : Meaning I) (words : Meaning D) where
   -- a clock counts itself
   worked_counts : (o : Option Stop) (m : Core P I D) (e : Event) (n : Core P I D) → Worked table instructions words o m e n → n.counts.clocks ≡ m.counts.clocks + 1
-  worked_counts None m e n w = w.counted.clocks
-  worked_counts (Some stop) m e n w = w.counted.clocks
+  worked_counts None m e n w = w.counted.clock_count
+  worked_counts (Some stop) m e n w = w.counted.clock_count
 
   module _ (fulls : List Event → Bool) (m : Machine P I D) where
     clocks_count : (k : ℕ) (es : List Event) (n : Machine P I D) → FreeClocks table instructions words fulls m k es n → n.core.counts.clocks ≡ m.core.counts.clocks + k

@@ -99,7 +99,7 @@ module _ {P I D : Type 0} (full : Bool) (p : Machine P I D) (n made : ℕ) where
 -- ---- what a listener hears
 
 module _ {P I D L : Type 0} (table : Table P) (instructions : Meaning I) (words : Meaning D) (heard : L → Event → L → Type 0) (full : L → Bool) (l : L) (m : Machine P I D) where
-  -- from the listener l and the machine m, k clocks come to i and p
+  -- from the listener l and the machine m, k clocks lead to i and p
   pub record HeardClocks (k : ℕ) (i : L) (p : Machine P I D) : Type 0 where
     pub events : List Event
     pub steps : FreeClocks table instructions words (λ _. false) m k events p
@@ -156,14 +156,14 @@ still i j k s t = record {
 }
 
 pub journal_hears : (j : Journal) (es : List Event) (k : Journal) → Heard (λ j e k. Adds j (e ∷ []) k) (λ j. is_full (logs j)) j es k → Adds j es k × Roomy (logs j) es
-journal_hears j es k silence = (record { logs_so = sym (logged_none (logs j)); slots = same j }, tt)
+journal_hears j es k silence = (record { added = sym (logged_none (logs j)); slots = same j }, tt)
 journal_hears j es k (one_more {es = fs} {l = i} e q h f a) =
     let b = journal_hears j fs i h in (
       record {
-        logs_so = a.logs_so ∙ ap (λ x. logged x (e ∷ [])) b.0.logs_so ∙ logged_after (logs j) fs (e ∷ []);
+        added = a.added ∙ ap (λ x. logged x (e ∷ [])) b.0.added ∙ logged_after (logs j) fs (e ∷ []);
         slots = still j i k b.0.slots a.slots;
       },
-      roomy_more (logs j) fs e b.1 (ap is_full (sym b.0.logs_so) ∙ f),
+      roomy_more (logs j) fs e b.1 (ap is_full (sym b.0.added) ∙ f),
     )
 
 module _ {P I D : Type 0} (table : Table P) (instructions : Meaning I) (words : Meaning D) where
@@ -176,4 +176,4 @@ module _ {P I D : Type 0} (table : Table P) (instructions : Meaning I) (words : 
   -- the journal that heard a run has all of it in its logs
   pub ran_into : (j k : Journal) (m p : Machine P I D) (n : ℕ) (r : Run) (es : List Event) → RanHeard table instructions words (is_full (logs k)) m n r es p
       → Adds j es k × Roomy (logs j) es → RanInto table instructions words (logs j) m n r (logs k) p
-  ran_into j k m p n r es ran b = (es, (into_logs (logs j) m r.made es p ran.0 b.1, b.0.logs_so, ran.1))
+  ran_into j k m p n r es ran b = (es, (into_logs (logs j) m r.made es p ran.0 b.1, b.0.added, ran.1))

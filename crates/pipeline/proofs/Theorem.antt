@@ -60,8 +60,8 @@ module _ {P I D : Type 0} (table : Table P) (instructions : Meaning I) (words : 
     bounded : m.counts.clocks ≤ 4294967295
 
   clock_number : (o : Option Stop) (m : Core P I D) (e : Event) (n : Core P I D) → Worked table instructions words o m e n → (e.clock.clock ≡ n.counts.clocks) × (n.counts.clocks ≡ m.counts.clocks + 1)
-  clock_number None m e n w = (ap (λ (x : Event). x.clock.clock) w.told_so, w.counted.clocks)
-  clock_number (Some stop) m e n w = (ap (λ (x : Event). x.clock.clock) w.told_so, w.counted.clocks)
+  clock_number None m e n w = (ap (λ (x : Event). x.clock.clock) w.event, w.counted.clock_count)
+  clock_number (Some stop) m e n w = (ap (λ (x : Event). x.clock.clock) w.event, w.counted.clock_count)
 
   by_clock : (h : List Event) (full : Bool) (m : Machine P I D) (e : Event) (n : Machine P I D) → Holds h m.core → refusal_at full m ≡ 0 → Ticked table instructions words m e n → Holds (h ++ e ∷ []) n.core
   by_clock h full m e n k z t =

@@ -3,6 +3,7 @@ use Rattle.std.specs.Prelude.{◌≡◌, ℕ, zero, ◌+◌, ◌<◌, Bool, true
 use Rattle.base.specs.Bytes.{within}
 use Rattle.base.specs.Refusals.{number, Answers, Says, reason}
 use Rattle.base.specs.declared.refusal.Refusal.{Refusal}
+use Rattle.base.specs.declared.refusal.Refusal.TheVariants.{Held, Stopped, LogFull, ClocksSpent, WrongToken}
 use Rattle.memory.specs.Meaning.{Meaning}
 use Rattle.sequential.specs.declared.record.Retirement.{Retirement}
 use Rattle.clocking.specs.Clock.{Cycled}
@@ -102,14 +103,14 @@ logged l es = record {
 abbrev pub is_stopped : {P I D : Type 0} → Machine P I D → Bool
 is_stopped m = is_some m.core.stopped
 
--- with which number a clock is refused: that of the first test that says no, or 0; who is told of it
--- may be full
+-- with which number a clock is refused: that of the first test that says no, or 0; who hears it may
+-- be full
 abbrev pub refusal_at : {P I D : Type 0} → Bool → Machine P I D → ℕ
 refusal_at full m =
-    if m.held then 4
-    else (if is_stopped m then 5
-    else (if full then 6
-    else (if m.core.counts.clocks == 4294967295 then 7
+    if m.held then number Held
+    else (if is_stopped m then number Stopped
+    else (if full then number LogFull
+    else (if m.core.counts.clocks == 4294967295 then number ClocksSpent
     else 0)))
 
 -- that of a clock into logs
@@ -141,7 +142,7 @@ module _ {P I D : Type 0} (table : Table P) (instructions : Meaning I) (words : 
 
 -- ---- run
 
--- so many accepted clocks in a row, where after some events who is told of them may be full
+-- a number of accepted clocks in a row, where after some events who hears them may be full
 pub data FreeClocks {P I D : Type 0}
     (table : Table P) (instructions : Meaning I) (words : Meaning D) (full : List Event → Bool)
     (m : Machine P I D)
@@ -163,8 +164,8 @@ Clocks table instructions words l =
 abbrev pub Short : ℕ → ℕ → Type 0
 Short made n = (made < n) ⊎ ((made ≡ 0) × (n ≡ 0))
 
--- How a run of n ends, by the number of its reason, at the machine then reached; who is told of it may
--- then be full.
+-- How a run of n ends, by the number of its reason, at the machine then reached; who hears it may then
+-- be full.
 -- 0: all were made, and where none were asked for, nothing refused the first test.
 -- Any other: it is short, and just with this number the next clock would be refused.
 abbrev pub EndedAt : {P I D : Type 0} → Bool → Machine P I D → ℕ → ℕ → ℕ → Type 0
@@ -222,7 +223,7 @@ abbrev pub HoldCall : {P I D : Type 0}
 HoldCall m r n =
     Says
     (λ token. (m.held ≡ false) × (token ≡ fresh m.serial) × (n ≡ with_held m true))
-    (λ why. (why ≡ 4) × (m.held ≡ true) × (n ≡ m))
+    (λ why. (why ≡ number Held) × (m.held ≡ true) × (n ≡ m))
     r
 
 abbrev pub IsUnfit : {P I D : Type 0} → Machine P I D → HoldToken → Type 0
@@ -235,5 +236,5 @@ ReleaseCall m token r n =
     Answers
     (λ e. number e.why)
     (λ _. (m.held ≡ true) × (token.serial ≡ m.serial) × (n ≡ with_held m false))
-    (λ why e. (why ≡ 8) × IsUnfit m token × (e.token ≡ token) × (n ≡ m))
+    (λ why e. (why ≡ number WrongToken) × IsUnfit m token × (e.token ≡ token) × (n ≡ m))
     r

@@ -24,7 +24,7 @@ pub record SameSlots (j k : Journal) : Type 0 where
 
 -- these events have come into the two logs
 pub record Adds (j : Journal) (es : List Event) (k : Journal) : Type 0 where
-  pub logs_so : logs k ≡ logged (logs j) es
+  pub added : logs k ≡ logged (logs j) es
   pub slots : SameSlots j k
 
 -- what the test before a clock says

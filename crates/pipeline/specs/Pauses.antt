@@ -1,7 +1,8 @@
 -- A machine that is held and let go again. Assumes nothing.
 use Rattle.std.specs.Prelude.{◌≡◌, true, false, Result}
-use Rattle.base.specs.Refusals.{Says}
+use Rattle.base.specs.Refusals.{number, Says}
 use Rattle.base.specs.declared.refusal.Refusal.{Refusal}
+use Rattle.base.specs.declared.refusal.Refusal.TheVariants.{Held}
 use Rattle.pipeline.specs.declared.machine.Machine.{Machine}
 
 -- n is m, which is not held; refused where it is
@@ -9,5 +10,5 @@ abbrev pub Paused : {P I D : Type 0} → Machine P I D → Result (Unit {0}) Ref
 Paused m r n =
     Says
     (λ _. (m.held ≡ false) × (n ≡ m))
-    (λ why. (why ≡ 4) × (m.held ≡ true) × (n ≡ m))
+    (λ why. (why ≡ number Held) × (m.held ≡ true) × (n ≡ m))
     r

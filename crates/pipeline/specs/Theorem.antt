@@ -94,7 +94,7 @@ pub record Recorded (h : List Event) (put : Entries) : Type 0 where
       → e.clock.clock ≡ length a + 1
 
 -- After any calls a machine agrees with the sequential machine that starts as first does, on the
--- words and bytes that its two memories mean, and the logs have what the history tells.
+-- words and bytes that its two memories mean, and the logs have the records of the history.
 abbrev pub Agrees : {P I D : Type 0} → Table P → Meaning I → Meaning D → Machine P I D → Type 0
 Agrees {P} {I} {D} table instructions words first =
     (h : List Event) (put : Entries) (m : Machine P I D)

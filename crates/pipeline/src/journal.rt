@@ -34,7 +34,7 @@ impl<'a> Journal<'a> {
         }
     }
 
-    /// Adds what a clock tells, for which there is room.
+    /// Adds the records of a clock, for which there is room.
     fn record(&mut self, event: Event)
         requires { is_full (logs self.old) ≡ false }
         ensures adds { logs self.new ≡ logged (logs self.old) (event ∷ []) }
@@ -56,7 +56,7 @@ impl Listener for Journal<'_> {
 
     ghost full = { λ j. is_full (logs j) };
 
-    /// Adds what a clock tells, where each of the two has a slot left.
+    /// Adds the records of a clock, where each of the two has a slot left.
     fn hear(&mut self, event: &Event) {
         if !self.is_full() {
             self.record(*event);

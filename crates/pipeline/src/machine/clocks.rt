@@ -33,7 +33,7 @@ impl<P: Predictor, I: Memory, D: Memory> Machine<P, I, D> {
         Ok(())
     }
 
-    /// One clock, which nothing refuses, told to the listener.
+    /// One clock, which nothing refuses and the listener hears.
     #[inline(always)]
     fn tick<L: Listener>(&mut self, listener: &mut L)
         requires { refusal_at (L.Listener.full listener.old) self.old ≡ 0 }
@@ -45,8 +45,8 @@ impl<P: Predictor, I: Memory, D: Memory> Machine<P, I, D> {
         listener.hear(&event);
     }
 
-    /// One clock. What it tells is added to the journal: the clock, and what retires in it. A clock that is refused alters
-    /// nothing: neither the machine nor any slot of the journal.
+    /// One clock. Its record is added to the journal, and that of what retires in it. A clock that is refused alters nothing:
+    /// neither the machine nor any slot of the journal.
     pub fn clock(&mut self, journal: &mut Journal) -> Result<(), Refusal>
         ensures does { ClockedInto P.Predictor.table I.Memory.means D.Memory.means
             (logs journal.old) self.old result (logs journal.new) self.new }
@@ -76,7 +76,7 @@ impl<P: Predictor, I: Memory, D: Memory> Machine<P, I, D> {
         Run { made: n, why: None }
     }
 
-    /// Up to `n` clocks in a row, each told to the listener, once, when it is made: how many were made, and the refusal of the
+    /// Up to `n` clocks in a row, each of which the listener hears when it is made: how many were made, and the refusal of the
     /// next where they are fewer. It is refused with 6 where the listener is full, and else as `run`.
     pub fn run_heard<L: Listener>(&mut self, n: u32, listener: &mut L) -> Run
         ensures { HeardRun L.Listener.heard L.Listener.full

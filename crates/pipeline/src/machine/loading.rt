@@ -1,4 +1,6 @@
-//! How a machine comes to be.
+//! Loading a machine.
+ghost use Rattle.base.specs.Refusals.{number};
+ghost use Rattle.base.specs.declared.refusal.Refusal.TheVariants.{BadStart};
 ghost use Rattle.memory.specs.Meaning.{Checked};
 ghost use Rattle.pipeline.specs.Calls.{Loaded, load_fits};
 ghost use Rattle.pipeline.specs.Theorem.{Agrees};
@@ -16,7 +18,8 @@ use rv32i_words::memo::Memo;
 /// Whether a machine can be loaded so; refused where the serial is above 65535, or the start no multiple of 4 or outside the
 /// instruction memory.
 pub fn check<I: Memory>(serial: u32, start: u32, instructions: &I) -> Result<(), Refusal>
-    ensures { Checked (load_fits serial (I.Memory.means.view.size instructions.now) start) 3 result }
+    ensures { Checked (load_fits serial (I.Memory.means.view.size instructions.now) start)
+        (number BadStart) result }
 {
     if serial <= 65535 && is_within(instructions.size(), start) {
         Ok(())

@@ -6,9 +6,9 @@ ghost use Rattle.pipeline.specs.Readings.{totals};
 
 use crate::machine::{Machine, Totals};
 use base::refusal::Refusal;
+use clock::counts::in_flight;
 use clocking::latch::Latches;
 use memory::{Memory, byte_at};
-use clock::counts::in_flight;
 use predictor::Predictor;
 use sequential::record::Stop;
 
@@ -62,7 +62,7 @@ impl<P: Predictor, I: Memory, D: Memory> Machine<P, I, D> {
         self.core.stopped
     }
 
-    /// How many clocks were made, and what became of the instructions.
+    /// The counts of clocks and of instructions.
     pub fn counts(&self) -> Totals
         ensures { result ≡ totals self.now }
     {

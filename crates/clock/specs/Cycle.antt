@@ -1,8 +1,9 @@
 -- One clock of a core, as a call, and its decode stage. Assumes nothing.
-use Rattle.std.specs.Prelude.{◌≡◌, ◌<◌, true, ◌⊎◌, is_some, Some, None, Option}
+use Rattle.std.specs.Prelude.{◌≡◌, ◌<◌, Bool, true, false, ◌⊎◌, is_some, None}
 use Rattle.memory.specs.Meaning.{Meaning}
 use Rattle.rv32i.specs.declared.registers.Registers.{Registers}
 use Rattle.clocking.specs.Clock.{Cycled}
+use Rattle.clocking.specs.Laws.{ClockLaws}
 use Rattle.clocking.specs.Ports.{Table}
 use Rattle.clocking.specs.Execute.{x_result}
 use Rattle.clocking.specs.Decode.{DecodeOut, decode_stage, values_in_flight}
@@ -23,7 +24,24 @@ decoded by-data by-execute m w g k = decode_stage (values_in_flight (x_result by
 abbrev pub with_x : Latches → Latch Decoded → Latches
 with_x k x = record k { x = x }
 
--- the clock that the rule has; a core that has stopped or has made all its clocks stays as it is
-abbrev pub Cycles : {P I D : Type 0} → Table P → Meaning I → Meaning D → Core P I D → Option Event → Core P I D → Type 0
-Cycles table instructions words m None n = (n ≡ m) × ((is_some m.stopped ≡ true) ⊎ (m.counts.clocks ≡ 4294967295))
-Cycles table instructions words m (Some e) n = (m.stopped ≡ None) × (m.counts.clocks < 4294967295) × Cycled table instructions words m e n
+module _ {P I D L : Type 0} (table : Table P) (instructions : Meaning I) (words : Meaning D) (heard : L → Event → L → Type 0) (full : L → Bool) where
+  -- a clock was made: it is the one that the rule has, keeps the laws, and is heard by a listener
+  -- that is not full
+  pub record Made (m : Core P I D) (before : L) (n : Core P I D) (after : L) : Type 0 where
+    pub not_stopped : m.stopped ≡ None
+    pub not_spent : m.counts.clocks < 4294967295
+    pub event : Event
+    pub cycled : Cycled table instructions words m event n
+    pub laws : ClockLaws table instructions words m event n
+    pub hears : full before ≡ false → heard before event after
+
+  -- none was: the core has stopped or has made all its clocks, and nothing is altered
+  pub record NotMade (m : Core P I D) (before : L) (n : Core P I D) (after : L) : Type 0 where
+    pub why : (is_some m.stopped ≡ true) ⊎ (m.counts.clocks ≡ 4294967295)
+    pub same_core : n ≡ m
+    pub same_listener : after ≡ before
+
+  -- a call that may make a clock, and whether it did
+  abbrev pub CycleHeard : Core P I D → L → Bool → Core P I D → L → Type 0
+  CycleHeard m before true n after = Made m before n after
+  CycleHeard m before false n after = NotMade m before n after

@@ -1,19 +1,20 @@
 //! One clock.
-ghost use Rattle.std.specs.Prelude.{◌≡◌, ◌<◌, None, IfSome};
+ghost use Rattle.std.specs.Prelude.{◌≡◌, ◌<◌, false, None};
 ghost use Rattle.clocking.specs.Clock.{Moved, Halted};
 ghost use Rattle.clocking.specs.Counting.{Counted};
-ghost use Rattle.clocking.specs.Laws.{ClockLaws};
 ghost use Rattle.clocking.specs.declared.latch.Completed.{Completed};
 ghost use Rattle.clocking.specs.declared.latch.Executed.{Executed};
 ghost use Rattle.clocking.specs.declared.latch.Latch.{Latch};
+ghost use Rattle.clocking.specs.declared.state.Event.{Event};
 ghost use Rattle.clock.specs.Decode.{rd_of, written_of};
-ghost use Rattle.clock.specs.Cycle.{Cycles, decoded, with_x};
+ghost use Rattle.clock.specs.Cycle.{CycleHeard, decoded, with_x};
 
 use crate::counts::dropped;
 use crate::data::data_stage;
 use crate::decode::{InFlight, Written, decode_stage, rd_of};
 use crate::execute::execute_stage;
 use crate::fetch::fetch_stage;
+use crate::listener::Listener;
 use crate::prediction::teach;
 use crate::record::{STOP, clock_record, notes};
 use crate::write_back::{outcome_of, retirement_of, stop_of, write_back};
@@ -43,9 +44,15 @@ fn count(counts: &mut Counts, fetched: bool, retired: bool, gone: u32)
 
 /// The machine stops: W is emptied, and both memories idle.
 #[inline(never)]
-fn halt<P: Predictor, I: Memory, D: Memory>(core: &mut Core<P, I, D>, stop: Stop) -> Event
+fn halt<P: Predictor, I: Memory, D: Memory, L: Listener>(
+    core: &mut Core<P, I, D>,
+    stop: Stop,
+    listener: &mut L,
+)
     requires { core.old.counts.clocks < 4294967295 }
-    ensures { Halted P.Predictor.table I.Memory.means D.Memory.means stop core.old result core.new }
+    ensures { (e : Event)
+        × Halted P.Predictor.table I.Memory.means D.Memory.means stop core.old e core.new
+        × (L.Listener.full listener.old ≡ false → L.Listener.heard listener.old e listener.new) }
 {
     core.data.idle();
     core.instructions.idle();
@@ -53,10 +60,10 @@ fn halt<P: Predictor, I: Memory, D: Memory>(core: &mut Core<P, I, D>, stop: Stop
     count(&mut core.counts, false, false, 0);
     let clock = clock_record(core.counts.clocks, &core.latches, STOP);
     core.latches.w = Latch::Empty;
-    Event {
+    listener.hear(&Event {
         clock,
         retirement: None,
-    }
+    });
 }
 
 /// The decode stage, with what data and execute made of M and X; `m` and `w` are what was in those latches.
@@ -90,9 +97,14 @@ fn decode(
 
 /// W retires, and the rest moves on.
 #[inline(always)]
-fn advance<P: Predictor, I: Memory, D: Memory>(core: &mut Core<P, I, D>) -> Event
+fn advance<P: Predictor, I: Memory, D: Memory, L: Listener>(
+    core: &mut Core<P, I, D>,
+    listener: &mut L,
+)
     requires { (core.old.stopped ≡ None) × (core.old.counts.clocks < 4294967295) }
-    ensures { Moved P.Predictor.table I.Memory.means D.Memory.means core.old result core.new }
+    ensures { (e : Event)
+        × Moved P.Predictor.table I.Memory.means D.Memory.means core.old e core.new
+        × (L.Listener.full listener.old ≡ false → L.Listener.heard listener.old e listener.new) }
 {
     let mut event = Event {
         clock: clock_record(core.counts.clocks + 1, &core.latches, Notes::NONE),
@@ -129,23 +141,26 @@ fn advance<P: Predictor, I: Memory, D: Memory>(core: &mut Core<P, I, D>) -> Even
     let retired = event.retirement.is_some();
     count(&mut core.counts, fetch.fetched, retired, gone);
     event.clock.notes = notes(completes, executes.flow, decodes, fetch.waits);
-    event
+    listener.hear(&event);
 }
 
-/// One clock of the core, and its event. A core that has stopped or has made all its clocks stays as it is, and there is
-/// no event.
+/// One clock of the core, which the listener hears; whether it was made. A core that has stopped or
+/// has made all its clocks stays as it is, and nothing is heard.
 #[inline(always)]
-pub fn checked_cycle<P: Predictor, I: Memory, D: Memory>(core: &mut Core<P, I, D>) -> Option<Event>
-    ensures cycles { Cycles P.Predictor.table I.Memory.means D.Memory.means
-        core.old result core.new }
-    ensures laws { IfSome result (λ e.
-        ClockLaws P.Predictor.table I.Memory.means D.Memory.means core.old e core.new) }
+pub fn checked_cycle<P: Predictor, I: Memory, D: Memory, L: Listener>(
+    core: &mut Core<P, I, D>,
+    listener: &mut L,
+) -> bool
+    ensures { CycleHeard P.Predictor.table I.Memory.means D.Memory.means
+        L.Listener.heard L.Listener.full
+        core.old listener.old result core.new listener.new }
 {
     if core.stopped.is_some() || core.counts.clocks == u32::MAX {
-        return None;
+        return false;
     }
-    Some(match stop_of(&core.latches.w) {
-        Some(stop) => halt(core, stop),
-        None => advance(core),
-    })
+    match stop_of(&core.latches.w) {
+        Some(stop) => halt(core, stop, listener),
+        None => advance(core, listener),
+    }
+    true
 }

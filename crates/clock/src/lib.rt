@@ -7,6 +7,7 @@ pub mod data;
 pub mod decode;
 pub mod execute;
 pub mod fetch;
+pub mod listener;
 pub mod prediction;
 pub mod record;
 pub mod write_back;

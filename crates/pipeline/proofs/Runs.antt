@@ -1,5 +1,5 @@
 -- Clocks in a row, between the logs before and after. Assumes nothing.
-use Rattle.std.proofs.Common.{◌≡◌, ℕ, zero, suc, ◌+◌, ◌<◌, Bool, true, false, if◌then◌else◌, ◌==◌, ◌⊎◌, List, [], ◌∷◌, ◌++◌, length, drop, Some, None, sym, refl, ap, ◌∙◌, inl, inr, append_assoc, append-nil, length-append, arith}
+use Rattle.std.proofs.Common.{◌≡◌, ℕ, zero, suc, ◌+◌, ◌<◌, Bool, true, false, if◌then◌else◌, ◌==◌, ◌⊎◌, List, [], ◌∷◌, ◌++◌, length, drop, Some, None, sym, refl, ap, ◌∙◌, inl, inr, ⊎_elim, true≢false, append_assoc, append-nil, length-append, arith}
 use Rattle.std.proofs.lemmas.List.{drop-drop}
 use Rattle.base.specs.Refusals.{number}
 use Rattle.base.specs.declared.refusal.Refusal.{Refusal}
@@ -7,6 +7,7 @@ use Rattle.base.specs.declared.refusal.Refusal.TheVariants.{FlatSize}
 use Rattle.memory.specs.Meaning.{Meaning}
 use Rattle.clocking.specs.Ports.{Table}
 use Rattle.clocking.specs.declared.state.Event.{Event}
+use Rattle.clock.specs.Cycle.{CycleHeard}
 use Rattle.pipeline.specs.Calls.{Slots, Logs, with_records, is_full, logged, retired_at, retired_entries, clock_entries, is_stopped, refusal_at, Ticked, FreeClocks, start, next, Clocks, Short, EndedAt, RanInto, RanHeard, Heard, silence, one_more, HeardRun}
 use Rattle.pipeline.specs.Logged.{logs, SameSlots, Adds}
 use Rattle.pipeline.specs.declared.journal.Journal.{Journal}
@@ -77,6 +78,20 @@ module _ {P I D : Type 0} where
   pub says_no : (full : Bool) (m : Machine P I D) → (refusal_at full m ≡ 0 → ⊥)
       → (m.held ≡ true) ⊎ ((is_stopped m ≡ true) ⊎ ((full ≡ true) ⊎ ((m.core.counts.clocks == 4294967295) ≡ true)))
   says_no full m = one_says_no m.held (is_stopped m) full (m.core.counts.clocks == 4294967295)
+
+-- ---- one clock
+
+module _ {P I D L : Type 0} (table : Table P) (instructions : Meaning I) (words : Meaning D) (heard : L → Event → L → Type 0) (full : L → Bool) where
+  -- a clock that nothing refuses is made, and heard
+  pub ticked : (m n : Machine P I D) (l k : L) (made : Bool) → refusal_at (full l) m ≡ 0
+      → CycleHeard table instructions words heard full m.core l made n.core k
+      → n.serial ≡ m.serial → n.held ≡ m.held
+      → (e : Event) × Ticked table instructions words m e n × heard l e k
+  ticked m n l k true z h s t =
+      (h.event, record { same_serial = s; same_held = t; cycled = h.cycled; laws = h.laws }, h.hears (free (full l) m z).room_left)
+  ticked m n l k false z h s t =
+      let f = free (full l) m z in
+      absurd (⊎_elim (λ x. true≢false (sym x ∙ f.not_stopped)) (λ x. true≢false (sym (ap (λ (c : ℕ). c == 4294967295) x) ∙ f.not_spent)) h.why)
 
 -- ---- how a run ends
 

@@ -4,9 +4,9 @@ ghost use Rattle.base.specs.Logs.{room};
 ghost use Rattle.pipeline.specs.Calls.{empty_logs, is_full, logged};
 ghost use Rattle.pipeline.specs.Logged.{logs, SameSlots, Adds};
 
-use crate::listener::Listener;
 use crate::machine::RetiredAt;
 use base::log::Log;
+use clock::listener::Listener;
 use clocking::state::{ClockRecord, Event};
 
 /// What retired, and the clocks, each in slots that the caller lends.

@@ -5,10 +5,10 @@ ghost use Rattle.pipeline.specs.Calls.{Ticked, ClockedInto, RanInto, HeardRun, r
 ghost use Rattle.pipeline.specs.Logged.{logs, SameSlots, Tested};
 
 use crate::journal::Journal;
-use crate::listener::Listener;
 use crate::machine::{Machine, Run};
 use base::refusal::Refusal;
 use clock::cycle::checked_cycle;
+use clock::listener::Listener;
 use memory::Memory;
 use predictor::Predictor;
 
@@ -41,8 +41,7 @@ impl<P: Predictor, I: Memory, D: Memory> Machine<P, I, D> {
             × Ticked P.Predictor.table I.Memory.means D.Memory.means self.old e self.new
             × L.Listener.heard listener.old e listener.new }
     {
-        let event = checked_cycle(&mut self.core).unwrap();
-        listener.hear(&event);
+        checked_cycle(&mut self.core, listener);
     }
 
     /// One clock. Its record is added to the journal, and that of what retires in it. A clock that is refused alters nothing:

@@ -34,12 +34,10 @@ fn count(counts: &mut Counts, fetched: bool, retired: bool, gone: u32)
     requires { counts.old.clocks < 4294967295 }
     ensures { Counted counts.old fetched retired gone counts.new }
 {
-    *counts = Counts {
-        clocks: counts.clocks + 1,
-        fetched: counts.fetched + u32::from(fetched),
-        retired: counts.retired + u32::from(retired),
-        dropped: counts.dropped.wrapping_add(gone),
-    };
+    counts.clocks += 1;
+    counts.fetched += u32::from(fetched);
+    counts.retired += u32::from(retired);
+    counts.dropped = counts.dropped.wrapping_add(gone);
 }
 
 /// The machine stops: W is emptied, and both memories idle.

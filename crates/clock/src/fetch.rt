@@ -66,11 +66,11 @@ fn place<P: Predictor>(
         Ok(word) => {
             let address = *f;
             let issued = memo.issue(address, word);
-            let goes_on = guess(predictor, address, &issued);
+            let goes_on = guess(predictor, address, issued);
             *d = Latch::Full(Fetched {
                 address,
                 word,
-                issued,
+                issued: *issued,
                 guess: goes_on,
             });
             *f = goes_on;

@@ -80,13 +80,13 @@ impl Memo {
     /// What the word at an address issues, or why it issues none; taken apart only where it is not the word that was
     /// remembered there.
     #[inline(always)]
-    pub fn issue(&mut self, address: u32, word: u32) -> Result<MicroOp, Cause>
-        ensures { result ≡ issued word }
+    pub fn issue(&mut self, address: u32, word: u32) -> &Result<MicroOp, Cause>
+        ensures { result.now ≡ issued word }
     {
         let entry = &mut self.entries[address as usize / 4 % ENTRIES];
         if entry.word != word {
             entry.remember(word);
         }
-        entry.answer
+        &entry.answer
     }
 }

@@ -3,7 +3,7 @@ use Rattle.std.specs.Prelude.{ℕ, Some, None, Option, if◌then◌else◌}
 use Rattle.rv32i.specs.declared.register.Register.{Register}
 use Rattle.rv32i.specs.declared.registers.Registers.{Registers}
 use Rattle.clocking.specs.Execute.{x_result}
-use Rattle.clocking.specs.Decode.{gives, from_x, arrived, or_else, value_of}
+use Rattle.clocking.specs.Decode.{gives, from_x, late_value, or_else, value_of}
 use Rattle.clocking.specs.declared.latch.Completed.{Completed}
 use Rattle.clocking.specs.declared.latch.Executed.{Executed}
 use Rattle.clocking.specs.declared.latch.Latch.{Latch}
@@ -29,7 +29,7 @@ from_rd rd v r = if gives rd r then Some v else None
 abbrev pub given_by : Latch Executed → Option Register → Latch Completed → Written → Registers → Register → Option ℕ
 given_by x m answer w g r =
     or_else (from_x x r)
-    (or_else (from_rd m (arrived answer) r)
+    (or_else (from_rd m (late_value answer) r)
     (or_else (from_rd w.rd (Some w.value) r)
     (Some (value_of g r))))
 

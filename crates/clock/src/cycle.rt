@@ -7,9 +7,9 @@ ghost use Rattle.clocking.specs.declared.latch.Completed.{Completed};
 ghost use Rattle.clocking.specs.declared.latch.Executed.{Executed};
 ghost use Rattle.clocking.specs.declared.latch.Latch.{Latch};
 ghost use Rattle.clock.specs.Decode.{rd_of, written_of};
-ghost use Rattle.clock.specs.Cycle.{Cycles, decoded, with_x};
+ghost use Rattle.clock.specs.Cycle.{Cycles, decode_after, with_x};
 
-use crate::counts::dropped;
+use crate::counts::dropped_count;
 use crate::data::data_stage;
 use crate::decode::{InFlight, Written, decode_stage, rd_of};
 use crate::execute::execute_stage;
@@ -72,10 +72,10 @@ fn decode(
     ensures latches { (old_m : Latch Executed) (old_w : Latch Completed)
         → m ≡ rd_of old_m → w ≡ written_of old_w
         → latches.new ≡ with_x latches.old
-        (decoded completes executes old_m old_w registers.now latches.old).x }
+        (decode_after completes executes old_m old_w registers.now latches.old).x }
     ensures flow { (old_m : Latch Executed) (old_w : Latch Completed)
         → m ≡ rd_of old_m → w ≡ written_of old_w
-        → result ≡ (decoded completes executes old_m old_w registers.now latches.old).flow }
+        → result ≡ (decode_after completes executes old_m old_w registers.now latches.old).flow }
 {
     let in_flight = InFlight {
         flow: completes,
@@ -107,7 +107,7 @@ fn advance<P: Predictor, I: Memory, D: Memory>(core: &mut Core<P, I, D>) -> Even
 
     let completes = data_stage(&mut core.data, &core.latches.m, &mut core.latches.w);
     let executes = execute_stage(&core.latches.x, completes, &mut core.latches.m);
-    let gone = dropped(&core.latches, completes, executes.flow);
+    let gone = dropped_count(&core.latches, completes, executes.flow);
     let decodes = decode(
         completes,
         executes.flow,

@@ -1,9 +1,9 @@
 //! The decode stage: D goes to X, with its operands.
 ghost use Rattle.std.specs.Prelude.{◌≡◌};
-ghost use Rattle.clocking.specs.Decode.{early, arrived, source, with_operands, decode_stage};
+ghost use Rattle.clocking.specs.Decode.{early_value, late_value, source, with_operands, decode_stage};
 ghost use Rattle.clock.specs.Decode.{rd_of, written_of, values};
 
-use crate::execute::held_up;
+use crate::execute::stall;
 use clocking::latch::{Completed, Decoded, Executed, Fetched, Latch};
 use clocking::stage::Flow;
 use rv32i::effect::Access;
@@ -14,8 +14,8 @@ use sequential::record::Stop;
 
 /// What X gives: a load has no value yet.
 #[inline(always)]
-fn early(access: Option<Access>, value: u32) -> Option<u32>
-    ensures { result ≡ early access value }
+fn early_value(access: Option<Access>, value: u32) -> Option<u32>
+    ensures { result ≡ early_value access value }
 {
     match access {
         Some(Access::Load(_)) => None,
@@ -25,8 +25,8 @@ fn early(access: Option<Access>, value: u32) -> Option<u32>
 
 /// What M gives: its value, if it went to W.
 #[inline(always)]
-fn arrived(answer: &Latch<Completed>) -> Option<u32>
-    ensures { result ≡ arrived answer.now }
+fn late_value(answer: &Latch<Completed>) -> Option<u32>
+    ensures { result ≡ late_value answer.now }
 {
     match *answer {
         Latch::Full(c) => Some(c.value),
@@ -83,18 +83,18 @@ pub struct InFlight<'a> {
 impl InFlight<'_> {
     /// What a register is. The youngest that writes it gives it: X, then M, then W, else the register file.
     #[inline(always)]
-    fn forwarded(self, r: Register) -> Option<u32>
+    fn forward(self, r: Register) -> Option<u32>
         ensures { result ≡ values self.entry r }
     {
         if self.flow == Flow::Moves
             && let Latch::Full(e) = self.x
             && e.rd == Some(r)
         {
-            early(e.access, e.result)
+            early_value(e.access, e.result)
         } else if let Some(rd) = self.m
             && rd == r
         {
-            arrived(self.answer)
+            late_value(self.answer)
         } else if let Some(rd) = self.w.rd
             && rd == r
         {
@@ -110,7 +110,7 @@ impl InFlight<'_> {
         ensures { result ≡ source (values self.entry) register }
     {
         match register {
-            Some(r) => self.forwarded(r),
+            Some(r) => self.forward(r),
             None => Some(0),
         }
     }
@@ -130,7 +130,7 @@ fn with_operands(
 {
     let (Some(a), Some(b)) = (a, b) else {
         *x = Latch::Empty;
-        return Flow::Stays;
+        return Flow::Stalls;
     };
     *x = Latch::Full(Decoded {
         address: f.address,
@@ -160,7 +160,7 @@ pub fn decode_stage(
             *x = Latch::Empty;
             Flow::RollsBack
         }
-        Flow::Stays => held_up(d),
+        Flow::Stalls => stall(d),
         Flow::Moves => match d {
             Latch::Empty => {
                 *x = Latch::Empty;

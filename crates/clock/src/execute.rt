@@ -1,7 +1,7 @@
 //! The execute stage: X goes to M, computed.
 ghost use Rattle.std.specs.Prelude.{◌≡◌, None};
 ghost use Rattle.rv32i.specs.Causes.{Gives};
-ghost use Rattle.clocking.specs.Execute.{execute, execute_stage, held_up};
+ghost use Rattle.clocking.specs.Execute.{execute, execute_stage, stall};
 
 use clocking::latch::{Decoded, Executed, Latch};
 use clocking::stage::Flow;
@@ -48,12 +48,12 @@ pub fn execute(d: &Decoded) -> Result<Executed, Cause>
 
 /// What becomes of a latch before which nothing moves: it stays, unless it is empty.
 #[inline(always)]
-pub(crate) fn held_up<T: Copy>(latch: &Latch<T>) -> Flow
-    ensures { result ≡ held_up latch.now }
+pub(crate) fn stall<T: Copy>(latch: &Latch<T>) -> Flow
+    ensures { result ≡ stall latch.now }
 {
     match *latch {
         Latch::Empty => Flow::Moves,
-        Latch::Faulting(_) | Latch::Full(_) => Flow::Stays,
+        Latch::Faulting(_) | Latch::Full(_) => Flow::Stalls,
     }
 }
 
@@ -70,7 +70,7 @@ pub fn execute_stage(x: &Latch<Decoded>, flow: Flow, m: &mut Latch<Executed>) ->
             *m = Latch::Empty;
             Flow::RollsBack.into()
         }
-        Flow::Stays => held_up(x).into(),
+        Flow::Stalls => stall(x).into(),
         Flow::Moves => match x {
             Latch::Empty => {
                 *m = Latch::Empty;

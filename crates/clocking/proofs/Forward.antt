@@ -17,8 +17,8 @@ use Rattle.rv32i.specs.declared.register.Register.{Register}
 use Rattle.rv32i.specs.declared.registers.Registers.{Registers}
 use Rattle.sequential.specs.Sequential.{State, World, then, fetch}
 use Rattle.clocking.specs.Data.{complete}
-use Rattle.clocking.specs.Execute.{ran, execute}
-use Rattle.clocking.specs.Decode.{gives, early, or_else, value_of, source}
+use Rattle.clocking.specs.Execute.{into_m, execute}
+use Rattle.clocking.specs.Decode.{gives, early_value, or_else, value_of, source}
 use Rattle.clocking.specs.declared.latch.Decoded.{Decoded}
 use Rattle.clocking.specs.declared.latch.Executed.{Executed}
 use Rattle.clocking.specs.declared.latch.Completed.{Completed}
@@ -105,7 +105,7 @@ Pairs s o r = ⊥
 pub record Follows (s : State) (e : Executed) (t : State) : Type 0 where
   pub value : ℕ
   pub registers : t.registers ≡ written s.registers e.rd value
-  pub plain : (v : ℕ) → early e.access e.result ≡ Some v → v ≡ value
+  pub plain : (v : ℕ) → early_value e.access e.result ≡ Some v → v ≡ value
   pub address : t.address ≡ e.next
 
 abbrev pub Runs : State → Result Executed Cause → Reach → Type 0
@@ -120,8 +120,8 @@ pairs_done s (Ok d) = refl
 -- only a load is answered a word
 abbrev Plain : Option Access → ℕ → Result (Option Request) Cause → Type 0
 Plain how x (Err c) = Unit {0}
-Plain how x (Ok (Some (Read a))) = (v w : ℕ) → early how x ≡ Some v → v ≡ w
-Plain how x (Ok q) = (v : ℕ) → early how x ≡ Some v → v ≡ x
+Plain how x (Ok (Some (Read a))) = (v w : ℕ) → early_value how x ≡ Some v → v ≡ w
+Plain how x (Ok q) = (v : ℕ) → early_value how x ≡ Some v → v ≡ x
 
 plain_by : (how : Option Access) (x : ℕ) (q : Request) (misaligned outside : Cause) (b d : Bool) → Plain how x (Ok (Some q)) → Plain how x (cond b (cond d (Ok (Some q)) (Err outside)) (Err misaligned))
 plain_by how x q misaligned outside true true h = h
@@ -151,7 +151,7 @@ runs_out size s (Err c) = tt
 runs_out size s (Ok e) = runs_by s e (request size e.access e.result e.b) (plain_so size e.access e.result e.b)
 
 -- the guess that an instruction carries does not bear on what it executes to
-ran_same : (s : State) (w g : ℕ) (i : Instruction) (o : Result Effect Cause) → then o (λ e. Ok (ran (operated s w g i) e)) ≡ then o (λ e. Ok (ran (operated s w 0 i) e))
+ran_same : (s : State) (w g : ℕ) (i : Instruction) (o : Result Effect Cause) → then o (λ e. Ok (into_m (operated s w g i) e)) ≡ then o (λ e. Ok (into_m (operated s w 0 i) e))
 ran_same s w g i (Err c) = refl
 ran_same s w g i (Ok e) = refl
 
@@ -173,7 +173,7 @@ abbrev pub At : State → Result Executed Cause → Type 0
 At s (Err c) = Unit {0}
 At s (Ok e) = e.address ≡ s.address
 
-at_ran : (s : State) (d : Decoded) → d.address ≡ s.address → (o : Result Effect Cause) → At s (then o (λ e. Ok (ran d e)))
+at_ran : (s : State) (d : Decoded) → d.address ≡ s.address → (o : Result Effect Cause) → At s (then o (λ e. Ok (into_m d e)))
 at_ran s d h (Err c) = tt
 at_ran s d h (Ok e) = h
 

@@ -10,7 +10,7 @@ use Rattle.rv32i.specs.declared.instruction.Instruction.{Instruction}
 use Rattle.sequential.specs.Sequential.{State, World, Step, Transfer, then, transferred, retired, first_operand, second_operand, stepped, fetch, step}
 use Rattle.sequential.specs.declared.record.Retirement.{Retirement}
 use Rattle.clocking.specs.Data.{complete}
-use Rattle.clocking.specs.Execute.{ran, execute}
+use Rattle.clocking.specs.Execute.{into_m, execute}
 use Rattle.clocking.specs.declared.latch.Fetched.{Fetched}
 use Rattle.clocking.specs.declared.latch.Decoded.{Decoded}
 use Rattle.clocking.specs.declared.latch.Executed.{Executed}
@@ -75,13 +75,13 @@ module _ (world : World) where
 
   transfer_on : (s : State) (w : ℕ) (i : Instruction) (e : Effect) (t : Result Transfer Cause)
       → then t (λ t. Ok (stepped s w i e t))
-      ≡ then (then t (λ t. Ok (record { run = ran (operated s w 0 i) e; value = t.value; bytes = t.bytes }))) (λ d. Ok (step_by s d))
+      ≡ then (then t (λ t. Ok (record { run = into_m (operated s w 0 i) e; value = t.value; bytes = t.bytes }))) (λ d. Ok (step_by s d))
   transfer_on s w i e (Err c) = refl
   transfer_on s w i e (Ok t) = refl
 
   effect_on : (s : State) (w : ℕ) (i : Instruction) (r : Result Effect Cause)
       → then r (λ e. then (transferred s.bytes (access i) e.result (request world.data_size (access i) e.result (second_operand s i))) (λ t. Ok (stepped s w i e t)))
-      ≡ then (then (then r (λ e. Ok (ran (operated s w 0 i) e))) (settle world.data_size s.bytes)) (λ d. Ok (step_by s d))
+      ≡ then (then (then r (λ e. Ok (into_m (operated s w 0 i) e))) (settle world.data_size s.bytes)) (λ d. Ok (step_by s d))
   unfolding settle
   effect_on s w i (Err c) = refl
   effect_on s w i (Ok e) = transfer_on s w i e (transferred s.bytes (access i) e.result (request world.data_size (access i) e.result (second_operand s i)))

@@ -7,7 +7,7 @@ use Rattle.sequential.specs.Sequential.{State, World, Step, step}
 use Rattle.sequential.specs.declared.record.Retirement.{Retirement}
 use Rattle.sequential.specs.declared.record.Stop.{Stop}
 use Rattle.clocking.specs.Counting.{in_flight_count}
-use Rattle.clocking.specs.Ports.{Table}
+use Rattle.clocking.specs.Ports.{TableOf}
 use Rattle.clocking.specs.declared.state.Core.{Core}
 use Rattle.clocking.specs.declared.state.Event.{Event}
 use Rattle.clocking.specs.declared.latch.Completed.{Completed}
@@ -16,19 +16,19 @@ use Rattle.clocking.specs.declared.latch.Latch.TheVariants.{Full}
 
 -- ---- what a history says: the clocks made, in order
 
-abbrev pub listed : {R : Type 0} → Option R → List R
-listed None = []
-listed (Some r) = r ∷ []
+abbrev pub list_of : {R : Type 0} → Option R → List R
+list_of None = []
+list_of (Some r) = r ∷ []
 
 -- the retired list
 abbrev pub retirements : List Event → List Retirement
 retirements [] = []
-retirements (e ∷ h) = listed e.retirement ++ retirements h
+retirements (e ∷ h) = list_of e.retirement ++ retirements h
 
 -- the outcomes of the retired branches
 abbrev pub outcomes : List Retirement → List Outcome
 outcomes [] = []
-outcomes (r ∷ rs) = listed r.outcome ++ outcomes rs
+outcomes (r ∷ rs) = list_of r.outcome ++ outcomes rs
 
 abbrev pub retires : Event → Bool
 retires e = is_some e.retirement
@@ -72,7 +72,7 @@ stopped_count (Some stop) = 1
 
 -- ---- the agreement of m, which a history h led to, with first, which has just been loaded
 
-module _ {P I D : Type 0} (table : Table P) (instructions : Meaning I) (words : Meaning D) where
+module _ {P I D : Type 0} (table : TableOf P) (instructions : Meaning I) (words : Meaning D) where
   -- the longest waits that the two memories state
   abbrev pub longest_waits : Core P I D → ℕ
   longest_waits first = instructions.view.longest first.instructions + words.view.longest first.«data»

@@ -19,7 +19,7 @@ use Rattle.rv32i_words.specs.Words.{decoded}
 use Rattle.sequential.specs.declared.record.Stop.{Stop}
 use Rattle.clocking.specs.WriteBack.{stop_of}
 use Rattle.clocking.specs.Counting.{is_wait}
-use Rattle.clocking.specs.Ports.{Table, Asked}
+use Rattle.clocking.specs.Ports.{TableOf, Asked}
 use Rattle.clocking.specs.Decode.{gives, value_of}
 use Rattle.clocking.specs.declared.counts.Counts.{Counts}
 use Rattle.clocking.specs.declared.latch.Fetched.{Fetched}
@@ -35,9 +35,9 @@ use Rattle.clocking.specs.declared.state.Event.{Event}
 -- ---- what stands in a latch
 
 -- whether something does
-abbrev pub is_held : {T : Type 0} → Latch T → Bool
-is_held Empty = false
-is_held l = true
+abbrev pub is_occupied : {T : Type 0} → Latch T → Bool
+is_occupied Empty = false
+is_occupied l = true
 
 -- its address, if something does
 abbrev pub standing : {T : Type 0} → (T → ℕ) → Latch T → List ℕ
@@ -79,9 +79,9 @@ m_request size (Full e) = request size e.access e.result e.b
 m_request size m = Ok None
 
 -- whether it has a cause, of its own or by its address
-abbrev pub m_is_refused : ℕ → Latch Executed → Bool
-m_is_refused size (Faulting stop) = true
-m_is_refused size m = is_err (m_request size m)
+abbrev pub m_faults : ℕ → Latch Executed → Bool
+m_faults size (Faulting stop) = true
+m_faults size m = is_err (m_request size m)
 
 -- what the data memory is asked for, if anything
 abbrev pub m_asks : Result (Option Request) Cause → Option Request
@@ -147,7 +147,7 @@ x_value x = 0
 -- ---- F
 
 -- where fetching goes on after an instruction at f, or after a word that is none
-abbrev pub guess_of : {P : Type 0} → Table P → P → ℕ → Option Instruction → ℕ
+abbrev pub guess_of : {P : Type 0} → TableOf P → P → ℕ → Option Instruction → ℕ
 guess_of table p f (Some (Jal rd z)) = offset_from f z
 guess_of table p f (Some (Branch how r q z)) =
     if table p [] f (offset_from f z) then offset_from f z else following f
@@ -157,7 +157,7 @@ guess_of table p f i = following f
 
 module _ (size : ℕ) (k : Latches) (reply : Option Reply) where
   abbrev pub rolls_by_data : Bool
-  rolls_by_data = m_is_refused size k.m
+  rolls_by_data = m_faults size k.m
 
   abbrev pub rolls_by_execute : Bool
   rolls_by_execute = not rolls_by_data && not (is_wait reply) && x_is_misguessed k.x
@@ -166,12 +166,12 @@ module _ (size : ℕ) (k : Latches) (reply : Option Reply) where
   rolls = rolls_by_data || rolls_by_execute
 
   -- X cannot move on while M waits
-  abbrev pub x_stays : Bool
-  x_stays = is_wait reply && is_held k.x
+  abbrev pub x_stalls : Bool
+  x_stalls = is_wait reply && is_occupied k.x
 
   -- whether D may move on, as far as the stages before it are concerned
   abbrev pub x_is_free : Bool
-  x_is_free = not rolls && not x_stays
+  x_is_free = not rolls && not x_stalls
 
   -- the youngest in flight that writes the register has no value yet: a load in X, or M, if it has to wait
   abbrev pub is_missing : Register → Bool
@@ -191,15 +191,15 @@ module _ (size : ℕ) (k : Latches) (reply : Option Reply) where
   is_short d = false
 
   -- a hazard
-  abbrev pub stalls : Bool
-  stalls = x_is_free && is_short k.d
+  abbrev pub has_hazard : Bool
+  has_hazard = x_is_free && is_short k.d
 
-  abbrev pub d_stays : Bool
-  d_stays = stalls || x_stays && is_held k.d
+  abbrev pub d_stalls : Bool
+  d_stalls = has_hazard || x_stalls && is_occupied k.d
 
   -- whether something can be put into D
   abbrev pub d_is_free : Bool
-  d_is_free = not rolls && not d_stays
+  d_is_free = not rolls && not d_stalls
 
   -- what the instruction memory is asked for, if it has that size
   abbrev pub f_asks : ℕ → Option Request
@@ -214,8 +214,8 @@ module _ (size : ℕ) (k : Latches) (reply : Option Reply) where
   -- file gives the registers once W is written back
   module _ (file : Register → ℕ) where
     -- the youngest in flight that writes the register gives it
-    abbrev pub forwarded : Register → ℕ
-    forwarded r =
+    abbrev pub forward : Register → ℕ
+    forward r =
         if x_writes k.x r then x_value k.x
         else (if m_writes k.m r then m_value k.m reply
         else (if w_writes k.w r then w_value k.w
@@ -224,7 +224,7 @@ module _ (size : ℕ) (k : Latches) (reply : Option Reply) where
     -- x0, and what is not read, is 0
     abbrev pub operand_of : Option Register → ℕ
     operand_of None = 0
-    operand_of (Some r) = forwarded r
+    operand_of (Some r) = forward r
 
     abbrev pub read_for : Fetched → Result Instruction Cause → Latch Decoded
     read_for f (Err c) = Faulting (record { address = f.address; cause = c })
@@ -247,15 +247,15 @@ module _ (size : ℕ) (k : Latches) (reply : Option Reply) where
     -- X after the clock
     pub record Decoding (x : Latch Decoded) : Type 0 where
       pub rolls_back : rolls ≡ true → x ≡ Empty
-      pub stays : x_stays ≡ true → x ≡ k.x
-      pub hazard : stalls ≡ true → x ≡ Empty
+      pub stalls : x_stalls ≡ true → x ≡ k.x
+      pub hazard : has_hazard ≡ true → x ≡ Empty
       pub moves : x_is_free ≡ true → is_short k.d ≡ false → x ≡ in_x k.d
 
   -- D and F after the clock; text is the size of the instruction memory, and guess says where it goes on after a word
   pub record Fetching (text : ℕ) (guess : ℕ → ℕ) (answer : Option Reply) (n : Latches) : Type 0 where
     pub data_rolls : rolls_by_data ≡ true → (n.d ≡ Empty) × (n.f ≡ k.f)
     pub execute_rolls : rolls_by_execute ≡ true → (n.d ≡ Empty) × (n.f ≡ x_next k.x)
-    pub stays : d_stays ≡ true → (n.d ≡ k.d) × (n.f ≡ k.f)
+    pub stalls : d_stalls ≡ true → (n.d ≡ k.d) × (n.f ≡ k.f)
     pub misaligned : d_is_free ≡ true → (k.f % 4 == 0) ≡ false
         → (n.d ≡ Faulting (record { address = k.f; cause = JumpMisaligned })) × (n.f ≡ following k.f)
     pub outside : d_is_free ≡ true → (k.f % 4 == 0) ≡ true → nat_lt k.f text ≡ false
@@ -282,7 +282,7 @@ module _ (size : ℕ) (k : Latches) (reply : Option Reply) where
 
 -- ---- the laws of a clock
 
-module _ {P I D : Type 0} (table : Table P) (instructions : Meaning I) (words : Meaning D) where
+module _ {P I D : Type 0} (table : TableOf P) (instructions : Meaning I) (words : Meaning D) where
   abbrev pub text_size : Core P I D → ℕ
   text_size m = instructions.view.size m.instructions
 
@@ -303,10 +303,10 @@ module _ {P I D : Type 0} (table : Table P) (instructions : Meaning I) (words : 
     pub fetching : Fetching (data_size m) m.latches reply (text_size m)
         (λ w. guess_of table n.predictor m.latches.f (decoded w)) answer n.latches
     pub flights : Flight (data_size m) m.latches reply m.counts n.latches n.counts
-    pub retires : is_some e.retirement ≡ is_held m.latches.w
+    pub retires : is_some e.retirement ≡ is_occupied m.latches.w
     pub notes : e.clock.notes ≡ record {
       fetch_wait = is_wait answer;
-      hazard = stalls (data_size m) m.latches reply;
+      hazard = has_hazard (data_size m) m.latches reply;
       data_wait = is_wait reply;
       rollback = rolls (data_size m) m.latches reply;
       stop = false;
@@ -318,7 +318,7 @@ module _ {P I D : Type 0} (table : Table P) (instructions : Meaning I) (words : 
     pub data_idles : words.idles m.«data» n.«data»
     pub text_idles : instructions.idles m.instructions n.instructions
     pub flights : flight m.latches ≡ stop.address ∷ flight n.latches
-    pub stays : n.latches.f ≡ m.latches.f
+    pub fetch_address : n.latches.f ≡ m.latches.f
     pub fetched_count : n.counts.fetched ≡ m.counts.fetched
     pub retired_count : n.counts.retired ≡ m.counts.retired
     pub dropped_count : n.counts.dropped ≡ m.counts.dropped % 2 ^ 32
@@ -331,9 +331,9 @@ module _ {P I D : Type 0} (table : Table P) (instructions : Meaning I) (words : 
       stop = true;
     }
 
-  abbrev pub Held : Option Stop → Core P I D → Event → Core P I D → Type 0
-  Held None m e n = GoingOn m e n
-  Held (Some stop) m e n = Ending stop m e n
+  abbrev pub LawsBy : Option Stop → Core P I D → Event → Core P I D → Type 0
+  LawsBy None m e n = GoingOn m e n
+  LawsBy (Some stop) m e n = Ending stop m e n
 
   abbrev pub ClockLaws : Core P I D → Event → Core P I D → Type 0
-  ClockLaws m e n = Held (stop_of m.latches.w) m e n
+  ClockLaws m e n = LawsBy (stop_of m.latches.w) m e n

@@ -24,6 +24,6 @@ abbrev pub outcome_of : Option Retirement → Option Outcome
 outcome_of None = None
 outcome_of (Some r) = r.outcome
 
-abbrev pub written_back : Registers → Latch Completed → Registers
-written_back g (Full c) = written g c.rd c.value
-written_back g w = g
+abbrev pub write_back : Registers → Latch Completed → Registers
+write_back g (Full c) = written g c.rd c.value
+write_back g w = g

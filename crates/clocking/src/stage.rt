@@ -4,6 +4,6 @@
 #[derive(Clone, Copy, PartialEq, Eq, Debug)]
 pub enum Flow {
     Moves,
-    Stays,
+    Stalls,
     RollsBack,
 }

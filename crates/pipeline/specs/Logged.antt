@@ -4,7 +4,7 @@ use Rattle.base.specs.Logs.{records, spare, room}
 use Rattle.base.specs.Refusals.{Says}
 use Rattle.base.specs.declared.refusal.Refusal.{Refusal}
 use Rattle.clocking.specs.declared.state.Event.{Event}
-use Rattle.pipeline.specs.Calls.{Logs, logged, refusal_at}
+use Rattle.pipeline.specs.Calls.{Logs, with_events, refusal_at}
 use Rattle.pipeline.specs.declared.journal.Journal.{Journal}
 use Rattle.pipeline.specs.declared.machine.Machine.{Machine}
 
@@ -24,7 +24,7 @@ pub record SameSlots (j k : Journal) : Type 0 where
 
 -- these events have come into the two logs
 pub record Adds (j : Journal) (es : List Event) (k : Journal) : Type 0 where
-  pub added : logs k ≡ logged (logs j) es
+  pub added : logs k ≡ with_events (logs j) es
   pub slots : SameSlots j k
 
 -- what the test before a clock says

@@ -10,7 +10,7 @@ use Rattle.predictor.specs.declared.bimodal.Bimodal.{Bimodal}
 use Rattle.predictor.specs.declared.gshare.Gshare.{Gshare}
 use Rattle.predictor.specs.declared.never.Never.{Never}
 use Rattle.predictor.specs.declared.tournament.Tournament.{Tournament}
-use Rattle.clocking.specs.Ports.{Table}
+use Rattle.clocking.specs.Ports.{TableOf}
 use Rattle.clocking.specs.declared.state.Event.{Event}
 use Rattle.pipeline.specs.Calls.{Loaded, load_fits, retired_entries, clock_entries}
 use Rattle.pipeline.specs.Readings.{totals}
@@ -47,7 +47,7 @@ abbrev pub timing_text : {P I D : Type 0} → Setup → Longest → List Event �
 timing_text s w h m = tables_if s.log h ++ report_text s w (outcomes_of m (gaps_after none_yet (retired_entries h)))
 
 -- the text is that of a run of a machine that was just loaded
-pub record Shown {P I D : Type 0} (table : Table P) (instructions : Meaning I) (words : Meaning D) (s : Setup) (w : Longest) (first : Machine P I D) (text : List ℕ) : Type 0 where
+pub record Shown {P I D : Type 0} (table : TableOf P) (instructions : Meaning I) (words : Meaning D) (s : Setup) (w : Longest) (first : Machine P I D) (text : List ℕ) : Type 0 where
   pub history : List Event
   pub put : Entries
   pub last : Machine P I D

@@ -15,15 +15,21 @@ use Rattle.clocking.specs.declared.stage.Flow.{Flow}
 use Rattle.clocking.specs.declared.state.Core.{Core}
 use Rattle.clocking.specs.declared.state.Event.{Event}
 
--- the decode stage once W and M are filled: m and w are what they held before, and the flows are those of M and X
-abbrev pub decode_after : Flow → Flow → Latch Executed → Latch Completed → Registers → Latches → DecodeOut
-decode_after by-data by-execute m w g k = decode_stage (values_in_flight (x_result by-data k.m) m k.w w g) k.x k.d by-execute
+-- the decode stage once W and M are filled: m and w are what they held before, and the flows are
+-- those of M and X
+abbrev pub decode_after : Flow → Flow → Latch Executed → Latch Completed → Registers → Latches
+    → DecodeOut
+decode_after by-data by-execute m w g k =
+    decode_stage (values_in_flight (x_result by-data k.m) m k.w w g) k.x k.d by-execute
 
 -- the latches with X filled
 abbrev pub with_x : Latches → Latch Decoded → Latches
 with_x k x = record k { x = x }
 
 -- the clock that the rule has; a core that has stopped or has made all its clocks stays as it is
-abbrev pub Cycles : {P I D : Type 0} → TableOf P → Meaning I → Meaning D → Core P I D → Option Event → Core P I D → Type 0
-Cycles table instructions words m None n = (n ≡ m) × ((is_some m.stopped ≡ true) ⊎ (m.counts.clocks ≡ 4294967295))
-Cycles table instructions words m (Some e) n = (m.stopped ≡ None) × (m.counts.clocks < 4294967295) × Cycled table instructions words m e n
+abbrev pub Cycles : {P I D : Type 0} → TableOf P → Meaning I → Meaning D
+    → Core P I D → Option Event → Core P I D → Type 0
+Cycles table instructions words m None n =
+    (n ≡ m) × ((is_some m.stopped ≡ true) ⊎ (m.counts.clocks ≡ 4294967295))
+Cycles table instructions words m (Some e) n =
+    (m.stopped ≡ None) × (m.counts.clocks < 4294967295) × Cycled table instructions words m e n

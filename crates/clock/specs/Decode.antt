@@ -25,8 +25,9 @@ written_of w = record { rd = None; value = 0 }
 abbrev pub from_rd : Option Register → Option ℕ → Register → Option (Option ℕ)
 from_rd rd v r = if gives rd r then Some v else None
 
--- what each register is: the youngest that writes it gives it, X, then M, then W, else the register file
-abbrev pub given_by : Latch Executed → Option Register → Latch Completed → Written → Registers → Register → Option ℕ
+-- what each register is: the youngest that writes it gives it, X, then M, then W, else the file
+abbrev pub given_by : Latch Executed → Option Register → Latch Completed → Written → Registers
+    → Register → Option ℕ
 given_by x m answer w g r =
     or_else (from_x x r)
     (or_else (from_rd m (late_value answer) r)

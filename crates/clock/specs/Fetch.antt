@@ -16,7 +16,7 @@ abbrev pub fetchable : ℕ → ℕ → Result Unit Cause
 fetchable size f =
     if f % 4 == 0 then (if nat_lt f size then Ok tt else Err FetchOutside) else Err JumpMisaligned
 
--- the fetch stage at f with d in D: the memory old is then new, and went is where fetching goes on and what is in D
+-- the fetch stage at f with d in D takes the memory from old to new, and went is F and D then
 pub record FetchDone {P I : Type 0} (table : TableOf P) (text : Meaning I) (p : P) (f : ℕ)
     (d : Latch Fetched) (flow : Flow) (redirect : Option ℕ) (old new : I) (went : FetchOut)
     (did : Fetching) : Type 0 where

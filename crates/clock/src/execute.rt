@@ -46,7 +46,7 @@ pub fn execute(d: &Decoded) -> Result<Executed, Cause>
     })
 }
 
-/// What becomes of a latch before which nothing moves: it stays, unless it is empty.
+/// A latch before which nothing moves stalls, unless it is empty.
 #[inline(always)]
 pub(crate) fn stall<T: Copy>(latch: &Latch<T>) -> Flow
     ensures { result ≡ stall latch.now }

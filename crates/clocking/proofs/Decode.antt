@@ -2,7 +2,7 @@
 use Rattle.std.proofs.Common.{◌≡◌, ℕ, Some, Ok, Err, Option, Result, sym, refl, ap, ◌∙◌}
 use Rattle.rv32i.specs.declared.cause.Cause.{Cause}
 use Rattle.rv32i.specs.declared.register.Register.{Register}
-use Rattle.sequential.specs.Sequential.{State, World, then}
+use Rattle.sequential.specs.Sequential.{State, World, then, fetch}
 use Rattle.clocking.specs.declared.latch.Fetched.{Fetched}
 use Rattle.clocking.specs.declared.latch.Decoded.{Decoded}
 use Rattle.clocking.specs.declared.latch.Latch.{Latch}
@@ -14,7 +14,6 @@ use Rattle.rv32i.specs.Effects.{first_source, second_source}
 use Rattle.rv32i_words.specs.Issues.{issued}
 use Rattle.rv32i.specs.Registers.{operand}
 use Rattle.rv32i.specs.declared.instruction.Instruction.{Instruction}
-use Rattle.sequential.specs.Sequential.{fetch}
 use Rattle.clocking.specs.Decode.{DecodeOut, source, with_operands, decode_word, decode_moves, decode_stalls, decode_stage}
 use Rattle.clocking.proofs.Chain.{Reach, faults_on, HoldsD, HoldsX, behindD, behindX, on_if}
 use Rattle.clocking.proofs.Execute.{Redirects, Onward}

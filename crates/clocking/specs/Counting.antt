@@ -33,7 +33,8 @@ if_rolled flow n = 0
 
 -- how many are removed: a rollback from data removes X, and any rollback D
 abbrev pub dropped_count : Latches → Flow → Flow → ℕ
-dropped_count k by-data by-execute = if_rolled by-data (occupancy k.x) + if_rolled by-execute (occupancy k.d)
+dropped_count k by-data by-execute =
+    if_rolled by-data (occupancy k.x) + if_rolled by-execute (occupancy k.d)
 
 abbrev pub one_if : Bool → ℕ
 one_if true = 1

@@ -24,7 +24,13 @@ data_request size (Full e) = request size e.access e.result e.b
 data_request size m = Ok None
 
 abbrev pub complete : Executed → ℕ → Completed
-complete e v = record { address = e.address; word = e.word; rd = e.rd; value = v; outcome = e.outcome }
+complete e v = record {
+  address = e.address;
+  word = e.word;
+  rd = e.rd;
+  value = v;
+  outcome = e.outcome;
+}
 
 abbrev pub completes_with : Executed → ℕ → DataOut
 completes_with e v = record { w = Full (complete e v); flow = Moves }
@@ -36,7 +42,10 @@ take_reply e (Some (Err Wait)) = record { w = Empty; flow = Stalls }
 take_reply e r = completes_with e e.result
 
 abbrev pub use_memory : Executed → Result (Option Request) Cause → Option Reply → DataOut
-use_memory e (Err c) r = record { w = Faulting (record { address = e.address; cause = c }); flow = RollsBack }
+use_memory e (Err c) r = record {
+  w = Faulting (record { address = e.address; cause = c });
+  flow = RollsBack;
+}
 use_memory e (Ok q) r = take_reply e r
 
 abbrev pub data_stage : Latch Executed → Result (Option Request) Cause → Option Reply → DataOut

@@ -56,8 +56,10 @@ abbrev pub value_of : Registers → Register → ℕ
 value_of g r = slice_index g r.number
 
 -- the youngest that writes the register gives it: X, then M, then W, else the register file
-abbrev pub values_in_flight : Latch Executed → Latch Executed → Latch Completed → Latch Completed → Registers → Register → Option ℕ
-values_in_flight x m answer w g r = or_else (from_x x r) (or_else (from_m m answer r) (or_else (from_w w r) (Some (value_of g r))))
+abbrev pub values_in_flight : Latch Executed → Latch Executed → Latch Completed → Latch Completed
+    → Registers → Register → Option ℕ
+values_in_flight x m answer w g r =
+    or_else (from_x x r) (or_else (from_m m answer r) (or_else (from_w w r) (Some (value_of g r))))
 
 -- what there is to read: x0, and what is not read, is 0
 abbrev pub source : (Register → Option ℕ) → Option Register → Option ℕ
@@ -66,14 +68,26 @@ source f (Some r) = f r
 
 abbrev pub with_operands : Fetched → Instruction → Option ℕ → Option ℕ → DecodeOut
 with_operands f i (Some a) (Some b) = record {
-  x = Full (record { address = f.address; word = f.word; instruction = i; rd = destination i; a = a; b = b; guess = f.guess });
+  x = Full (record {
+    address = f.address;
+    word = f.word;
+    instruction = i;
+    rd = destination i;
+    a = a;
+    b = b;
+    guess = f.guess;
+  });
   flow = Moves;
 }
 with_operands f i a b = record { x = Empty; flow = Stalls }
 
 abbrev pub decode_word : (Register → Option ℕ) → Fetched → Result Instruction Cause → DecodeOut
-decode_word reads f (Err c) = record { x = Faulting (record { address = f.address; cause = c }); flow = Moves }
-decode_word reads f (Ok i) = with_operands f i (source reads (first_source i)) (source reads (second_source i))
+decode_word reads f (Err c) = record {
+  x = Faulting (record { address = f.address; cause = c });
+  flow = Moves;
+}
+decode_word reads f (Ok i) =
+    with_operands f i (source reads (first_source i)) (source reads (second_source i))
 
 abbrev pub decode_moves : (Register → Option ℕ) → Latch Fetched → DecodeOut
 decode_moves reads Empty = record { x = Empty; flow = Moves }
@@ -84,7 +98,7 @@ abbrev pub decode_stalls : Latch Decoded → Latch Fetched → DecodeOut
 decode_stalls x Empty = record { x = x; flow = Moves }
 decode_stalls x d = record { x = x; flow = Stalls }
 
--- by what the execute stage did with X
+-- by the flow of X
 abbrev pub decode_stage : (Register → Option ℕ) → Latch Decoded → Latch Fetched → Flow → DecodeOut
 decode_stage reads x d RollsBack = record { x = Empty; flow = RollsBack }
 decode_stage reads x d Stalls = decode_stalls x d

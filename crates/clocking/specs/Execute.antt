@@ -32,21 +32,25 @@ into_m d e = record {
 abbrev pub execute : Decoded → Result Executed Cause
 execute d = then (executed d.instruction d.address d.a d.b) (λ e. Ok (into_m d e))
 
--- whether its true next address is the guessed one
+-- a rollback, unless the true next address is the guessed one
 abbrev pub redirect_unless : Executed → Bool → ExecuteOut
 redirect_unless e true = record { m = Full e; flow = Moves; redirect = None }
 redirect_unless e false = record { m = Full e; flow = RollsBack; redirect = Some e.next }
 
 abbrev pub check_guess : ℕ → ℕ → Result Executed Cause → ExecuteOut
-check_guess a guess (Err c) = record { m = Faulting (record { address = a; cause = c }); flow = Moves; redirect = None }
+check_guess a guess (Err c) = record {
+  m = Faulting (record { address = a; cause = c });
+  flow = Moves;
+  redirect = None;
+}
 check_guess a guess (Ok e) = redirect_unless e (e.next == guess)
 
--- what becomes of a latch before which nothing moves: it stays, unless it is empty
+-- a latch before which nothing moves stalls, unless it is empty
 abbrev pub stall : {T : Type 0} → Latch T → Flow
 stall Empty = Moves
 stall l = Stalls
 
--- by what the data stage did with M
+-- by the flow of M
 abbrev pub execute_stage : Latch Executed → Latch Decoded → Flow → ExecuteOut
 execute_stage m x RollsBack = record { m = Empty; flow = RollsBack; redirect = None }
 execute_stage m Empty Stalls = record { m = m; flow = Moves; redirect = None }

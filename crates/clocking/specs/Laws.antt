@@ -1,4 +1,4 @@
--- The laws of a clock, by the latches before and after it and the replies of the memories. Assumes nothing.
+-- The laws of a clock, by the latches before and after it and the replies. Assumes nothing.
 use Rattle.std.specs.Prelude.{◌≡◌, ℕ, ◌+◌, ◌%◌, ◌^◌, Bool, true, false, not, ◌&&◌, ◌||◌, ◌⊎◌, ◌==◌, if◌then◌else◌, List, [], ◌∷◌, ◌++◌, length, is_some, is_ok, is_err, nat_lt, Some, None, Ok, Err, Option, Result}
 use Rattle.base.specs.Bytes.{within}
 use Rattle.base.specs.declared.bus.Request.{Request}
@@ -18,6 +18,7 @@ use Rattle.rv32i_words.specs.Issues.{issued}
 use Rattle.rv32i_words.specs.Words.{decoded}
 use Rattle.sequential.specs.declared.record.Stop.{Stop}
 use Rattle.clocking.specs.WriteBack.{stop_of}
+use Rattle.clocking.specs.Clock.{data_size, text_size}
 use Rattle.clocking.specs.Counting.{is_wait}
 use Rattle.clocking.specs.Ports.{TableOf, Asked}
 use Rattle.clocking.specs.Decode.{gives, value_of}
@@ -153,7 +154,7 @@ guess_of table p f (Some (Branch how r q z)) =
     if table p [] f (offset_from f z) then offset_from f z else following f
 guess_of table p f i = following f
 
--- ---- a clock in which W does not stop the machine: the latches before it, and what the data memory replies
+-- ---- a clock in which W does not stop the machine, by the latches before it and the reply of data
 
 module _ (size : ℕ) (k : Latches) (reply : Option Reply) where
   abbrev pub rolls_by_data : Bool
@@ -173,7 +174,7 @@ module _ (size : ℕ) (k : Latches) (reply : Option Reply) where
   abbrev pub x_is_free : Bool
   x_is_free = not rolls && not x_stalls
 
-  -- the youngest in flight that writes the register has no value yet: a load in X, or M, if it has to wait
+  -- the youngest in flight that writes the register has no value yet: a load in X, or M on a Wait
   abbrev pub is_missing : Register → Bool
   is_missing r = if x_writes k.x r then x_loads k.x else m_writes k.m r && is_wait reply
 
@@ -251,22 +252,25 @@ module _ (size : ℕ) (k : Latches) (reply : Option Reply) where
       pub hazard : has_hazard ≡ true → x ≡ Empty
       pub moves : x_is_free ≡ true → is_short k.d ≡ false → x ≡ in_x k.d
 
-  -- D and F after the clock; text is the size of the instruction memory, and guess says where it goes on after a word
-  pub record Fetching (text : ℕ) (guess : ℕ → ℕ) (answer : Option Reply) (n : Latches) : Type 0 where
+  -- D and F after the clock; text is the size of the instruction memory, guess is F after a word
+  pub record Fetching
+      (text : ℕ) (guess : ℕ → ℕ) (answer : Option Reply) (n : Latches) : Type 0 where
     pub data_rolls : rolls_by_data ≡ true → (n.d ≡ Empty) × (n.f ≡ k.f)
     pub execute_rolls : rolls_by_execute ≡ true → (n.d ≡ Empty) × (n.f ≡ x_next k.x)
     pub stalls : d_stalls ≡ true → (n.d ≡ k.d) × (n.f ≡ k.f)
     pub misaligned : d_is_free ≡ true → (k.f % 4 == 0) ≡ false
-        → (n.d ≡ Faulting (record { address = k.f; cause = JumpMisaligned })) × (n.f ≡ following k.f)
+        → (n.d ≡ Faulting (record { address = k.f; cause = JumpMisaligned }))
+        × (n.f ≡ following k.f)
     pub outside : d_is_free ≡ true → (k.f % 4 == 0) ≡ true → nat_lt k.f text ≡ false
-        → (n.d ≡ Faulting (record { address = k.f; cause = FetchOutside })) × (n.f ≡ following k.f)
+        → (n.d ≡ Faulting (record { address = k.f; cause = FetchOutside }))
+        × (n.f ≡ following k.f)
     pub waits : is_wait answer ≡ true → (n.d ≡ Empty) × (n.f ≡ k.f)
     pub arrives : (w : ℕ) → answer ≡ Some (Ok (Word w))
         → (n.d ≡ Full (record { address = k.f; word = w; issued = issued w; guess = n.f }))
         × (n.f ≡ guess w)
 
-  -- What retires or is dropped is in flight no more, and what is fetched is in flight then. The rest is so before and after,
-  -- and goes from M to W and from X to M unless M waits.
+  -- What retires or is dropped is in flight no more, and what is fetched is in flight then. The rest
+  -- is in flight before and after, and goes from M to W and from X to M unless M waits.
   pub record Flight (c : Counts) (n : Latches) (d : Counts) : Type 0 where
     pub to_w : at_w n.w ≡ (if is_wait reply then [] else at_m k.m)
     pub to_m : at_m n.m
@@ -283,12 +287,6 @@ module _ (size : ℕ) (k : Latches) (reply : Option Reply) where
 -- ---- the laws of a clock
 
 module _ {P I D : Type 0} (table : TableOf P) (instructions : Meaning I) (words : Meaning D) where
-  abbrev pub text_size : Core P I D → ℕ
-  text_size m = instructions.view.size m.instructions
-
-  abbrev pub data_size : Core P I D → ℕ
-  data_size m = words.view.size m.«data»
-
   -- W does not stop the machine
   pub record GoingOn (m : Core P I D) (e : Event) (n : Core P I D) : Type 0 where
     -- of the data memory and of the instruction memory
@@ -296,19 +294,20 @@ module _ {P I D : Type 0} (table : TableOf P) (instructions : Meaning I) (words 
     pub answer : Option Reply
     pub runs_on : n.stopped ≡ None
     pub data_asked : Asked words m.«data»
-        (m_asks (m_request (data_size m) m.latches.m)) reply n.«data»
+        (m_asks (m_request (data_size words m) m.latches.m)) reply n.«data»
     pub text_asked : Asked instructions m.instructions
-        (f_asks (data_size m) m.latches reply (text_size m)) answer n.instructions
-    pub decoding : Decoding (data_size m) m.latches reply (value_of n.registers) n.latches.x
-    pub fetching : Fetching (data_size m) m.latches reply (text_size m)
+        (f_asks (data_size words m) m.latches reply (text_size instructions m))
+        answer n.instructions
+    pub decoding : Decoding (data_size words m) m.latches reply (value_of n.registers) n.latches.x
+    pub fetching : Fetching (data_size words m) m.latches reply (text_size instructions m)
         (λ w. guess_of table n.predictor m.latches.f (decoded w)) answer n.latches
-    pub flights : Flight (data_size m) m.latches reply m.counts n.latches n.counts
+    pub flights : Flight (data_size words m) m.latches reply m.counts n.latches n.counts
     pub retires : is_some e.retirement ≡ is_occupied m.latches.w
     pub notes : e.clock.notes ≡ record {
       fetch_wait = is_wait answer;
-      hazard = has_hazard (data_size m) m.latches reply;
+      hazard = has_hazard (data_size words m) m.latches reply;
       data_wait = is_wait reply;
-      rollback = rolls (data_size m) m.latches reply;
+      rollback = rolls (data_size words m) m.latches reply;
       stop = false;
     }
 

@@ -2,8 +2,7 @@
 use Rattle.std.specs.Prelude.{◌≡◌, ℕ, Bool, if◌then◌else◌, List, [], ◌∷◌, Some, None, Ok, Err, Option, Result}
 use Rattle.base.specs.declared.branch.Outcome.{Outcome}
 use Rattle.base.specs.declared.bus.Request.{Request}
-use Rattle.memory.specs.Meaning.{Meaning}
-use Rattle.memory.specs.Meaning.{Reply}
+use Rattle.memory.specs.Meaning.{Meaning, Reply}
 use Rattle.memory.specs.declared.Answer.TheVariants.{Word}
 use Rattle.rv32i.specs.Effects.{following}
 use Rattle.rv32i_words.specs.Issues.{issued}
@@ -14,7 +13,8 @@ use Rattle.rv32i.specs.declared.target.Target.{Target}
 use Rattle.rv32i.specs.declared.target.Target.TheVariants.{Next, Branch, Jump}
 use Rattle.clocking.specs.declared.latch.Fetched.{Fetched}
 
--- a predictor's table: its guess for every branch, by address and target, after every list of outcomes still to come
+-- the tables of a type of predictors: the guess for every branch, by address and target, after
+-- every list of outcomes still to come
 abbrev pub TableOf : Type 0 → Type 0
 TableOf P = P → List Outcome → ℕ → ℕ → Bool
 
@@ -47,5 +47,10 @@ guess_after table p f (Ok i) = guess_by table p f (target_of i f)
 
 -- what arrived from the instruction memory
 abbrev pub arrival : {P : Type 0} → TableOf P → P → ℕ → Option Reply → Option Fetched
-arrival table p f (Some (Ok (Word w))) = Some (record { address = f; word = w; issued = issued w; guess = guess_after table p f (issued w) })
+arrival table p f (Some (Ok (Word w))) = Some (record {
+  address = f;
+  word = w;
+  issued = issued w;
+  guess = guess_after table p f (issued w);
+})
 arrival table p f r = None

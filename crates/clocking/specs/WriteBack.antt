@@ -17,7 +17,10 @@ stop_of w = None
 
 -- W retires where it is full and not faulting
 abbrev pub retirement_of : Latch Completed → Option Retirement
-retirement_of (Full c) = Some (record { retired = retired c.address c.word c.rd c.value; outcome = c.outcome })
+retirement_of (Full c) = Some (record {
+  retired = retired c.address c.word c.rd c.value;
+  outcome = c.outcome;
+})
 retirement_of w = None
 
 abbrev pub outcome_of : Option Retirement → Option Outcome

@@ -1,4 +1,4 @@
--- What is in flight, as the code has it together. Assumes nothing.
+-- What decode reads of the older instructions. Assumes nothing.
 use Rattle.std.specs.Prelude.{ℕ, Some, None, Option, if◌then◌else◌}
 use Rattle.rv32i.specs.declared.register.Register.{Register}
 use Rattle.rv32i.specs.declared.registers.Registers.{Registers}
@@ -11,12 +11,12 @@ use Rattle.clocking.specs.declared.latch.Latch.TheVariants.{Full}
 use Rattle.clock.specs.declared.decode.InFlight.{InFlight}
 use Rattle.clock.specs.declared.decode.Written.{Written}
 
--- the register that what is in M writes
+-- the register that M writes
 abbrev pub rd_of : Latch Executed → Option Register
 rd_of (Full e) = e.rd
 rd_of m = None
 
--- what is in W writes
+-- what W writes
 abbrev pub written_of : Latch Completed → Written
 written_of (Full c) = record { rd = c.rd; value = c.value }
 written_of w = record { rd = None; value = 0 }

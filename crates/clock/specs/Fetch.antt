@@ -11,7 +11,7 @@ use Rattle.clocking.specs.declared.latch.Latch.{Latch}
 use Rattle.clocking.specs.declared.stage.Flow.{Flow}
 use Rattle.clock.specs.declared.fetch.Fetching.{Fetching}
 
--- whether a word can be fetched at f, or the cause that f has, in a memory of that size
+-- whether a word can be fetched at f, or the cause, in a memory of that size
 abbrev pub fetchable : ℕ → ℕ → Result Unit Cause
 fetchable size f =
     if f % 4 == 0 then (if nat_lt f size then Ok tt else Err FetchOutside) else Err JumpMisaligned

@@ -17,14 +17,14 @@ fn occupancy<T: Copy>(latch: &Latch<T>) -> u32
     }
 }
 
-/// How many stand in latches.
+/// How many instructions are in flight.
 pub fn in_flight_count(latches: &Latches) -> u32
     ensures { result ≡ in_flight_count latches.now }
 {
     occupancy(&latches.d) + occupancy(&latches.x) + occupancy(&latches.m) + occupancy(&latches.w)
 }
 
-/// What a rollback removes of a latch.
+/// How many instructions of a latch a rollback drops.
 #[inline(always)]
 fn if_rolled<T: Copy>(flow: Flow, latch: &Latch<T>) -> u32
     ensures is { result ≡ if_rolled flow (occupancy latch.now) }
@@ -36,7 +36,7 @@ fn if_rolled<T: Copy>(flow: Flow, latch: &Latch<T>) -> u32
     }
 }
 
-/// How many are removed: a rollback from data removes X, and any rollback D.
+/// How many instructions are dropped: a rollback from data drops X, and any rollback D.
 #[inline(always)]
 pub fn dropped_count(latches: &Latches, data: Flow, execute: Flow) -> u32
     ensures { result ≡ dropped_count latches.now «data» execute }

@@ -27,7 +27,7 @@ use rv32i::register::Register;
 use rv32i::registers::Registers;
 use sequential::record::Stop;
 
-/// Counts a clock, and what was fetched, retired and removed in it.
+/// Counts a clock, and the instructions that were fetched, retired and dropped in it.
 #[inline(always)]
 fn count(counts: &mut Counts, fetched: bool, retired: bool, gone: u32)
     requires { counts.old.clocks < 4294967295 }
@@ -59,7 +59,7 @@ fn halt<P: Predictor, I: Memory, D: Memory>(core: &mut Core<P, I, D>, stop: Stop
     }
 }
 
-/// The decode stage, with what data and execute made of M and X; `m` and `w` are what was in those latches.
+/// The decode stage, by the flows of M and X; `m` and `w` are of those latches as they were.
 #[inline(always)]
 fn decode(
     completes: Flow,

@@ -29,7 +29,7 @@ fn complete(e: &Executed, value: u32, w: &mut Latch<Completed>) -> Flow
     Flow::Moves
 }
 
-/// M stays while the memory says Wait.
+/// M stalls while the memory says Wait.
 #[inline(always)]
 fn wait(w: &mut Latch<Completed>) -> Flow
     ensures w { w.new ≡ Empty }
@@ -64,8 +64,8 @@ fn after_write(e: &Executed, answer: Result<(), Unserved>, w: &mut Latch<Complet
     }
 }
 
-/// A cause goes to W and rolls back; M waits while the memory does; all else goes to W. The memory is asked what M asks, or
-/// passes the clock idle.
+/// A fault goes to W and rolls back; M stalls while the memory says Wait; all else goes to W. The memory serves the request
+/// of M, or idles.
 #[inline(always)]
 #[tactic(auto, using(crate::proofs::DataAsked::data_idle, crate::proofs::DataAsked::data_faults, crate::proofs::DataAsked::data_free, crate::proofs::DataAsked::data_asked))]
 pub fn data_stage<D: Memory>(data: &mut D, m: &Latch<Executed>, w: &mut Latch<Completed>) -> Flow

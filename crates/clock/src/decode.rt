@@ -12,7 +12,7 @@ use rv32i::register::Register;
 use rv32i::registers::Registers;
 use sequential::record::Stop;
 
-/// What X gives: a load has no value yet.
+/// The value that X forwards: a load has none yet.
 #[inline(always)]
 fn early_value(access: Option<Access>, value: u32) -> Option<u32>
     ensures { result ≡ early_value access value }
@@ -23,7 +23,7 @@ fn early_value(access: Option<Access>, value: u32) -> Option<u32>
     }
 }
 
-/// What M gives: its value, if it went to W.
+/// The value that M forwards, if it went to W.
 #[inline(always)]
 fn late_value(answer: &Latch<Completed>) -> Option<u32>
     ensures { result ≡ late_value answer.now }
@@ -34,7 +34,7 @@ fn late_value(answer: &Latch<Completed>) -> Option<u32>
     }
 }
 
-/// The register that what is in M writes, if it writes one.
+/// The register that M writes, if it writes one.
 #[inline(always)]
 pub fn rd_of(m: &Latch<Executed>) -> Option<Register>
     ensures { result ≡ rd_of m.now }
@@ -45,7 +45,7 @@ pub fn rd_of(m: &Latch<Executed>) -> Option<Register>
     }
 }
 
-/// What an instruction in W writes: the register, if it writes one, and its value.
+/// The register that W writes, if it writes one, and the value.
 #[derive(Clone, Copy)]
 pub struct Written {
     pub rd: Option<Register>,
@@ -53,7 +53,7 @@ pub struct Written {
 }
 
 impl Written {
-    /// What is in W writes.
+    /// What W writes.
     #[inline(always)]
     pub fn of(w: &Latch<Completed>) -> Written
         ensures { result ≡ written_of w.now }
@@ -68,8 +68,8 @@ impl Written {
     }
 }
 
-/// What is in flight, to an instruction in D: X with this clock's result, which it put into M if M moved; what was in M, with
-/// this clock's answer; what was in W, and the register file that it is written back to.
+/// What decode reads of the older instructions: X with this clock's result, which is in M if M moved; the register of the old
+/// M, with this clock's answer; what the old W wrote, and the register file that it was written back to.
 #[derive(Clone, Copy)]
 pub struct InFlight<'a> {
     pub flow: Flow,
@@ -81,7 +81,7 @@ pub struct InFlight<'a> {
 }
 
 impl InFlight<'_> {
-    /// What a register is. The youngest that writes it gives it: X, then M, then W, else the register file.
+    /// The value of a register, of the youngest that writes it: X, then M, then W, else the register file.
     #[inline(always)]
     fn forward(self, r: Register) -> Option<u32>
         ensures { result ≡ values self.entry r }
@@ -104,7 +104,7 @@ impl InFlight<'_> {
         }
     }
 
-    /// What there is to read: where no register is read, 0.
+    /// An operand: 0 where no register is read.
     #[inline(always)]
     fn source(self, register: Option<Register>) -> Option<u32>
         ensures { result ≡ source (values self.entry) register }
@@ -116,7 +116,7 @@ impl InFlight<'_> {
     }
 }
 
-/// The instruction goes to X with its operands, or stays while one is not there.
+/// The instruction goes to X with its operands, or stalls while one is not there.
 #[inline(always)]
 fn with_operands(
     f: &Fetched,
@@ -144,7 +144,7 @@ fn with_operands(
     Flow::Moves
 }
 
-/// D is dropped after a rollback and stays while X stays; else it goes to X, unless an operand is not there.
+/// D is dropped after a rollback and stalls while X stalls; else it goes to X, unless an operand is not there.
 #[inline(always)]
 pub fn decode_stage(
     in_flight: InFlight<'_>,

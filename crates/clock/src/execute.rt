@@ -57,7 +57,7 @@ pub(crate) fn stall<T: Copy>(latch: &Latch<T>) -> Flow
     }
 }
 
-/// X is dropped after a rollback and stays while M stays; else it goes to M, and rolls back what was fetched after it where
+/// X is dropped after a rollback and stalls while M stalls; else it goes to M, and rolls back what was fetched after it where
 /// its true next address is not the guessed one.
 #[inline(always)]
 pub fn execute_stage(x: &Latch<Decoded>, flow: Flow, m: &mut Latch<Executed>) -> Executing

@@ -31,7 +31,7 @@ impl Fetching {
     };
 }
 
-/// Whether a word can be fetched at F, or the cause that F has, in an instruction memory of that size.
+/// Whether a word can be fetched at F, or the cause, in an instruction memory of that size.
 #[inline(always)]
 fn fetchable(size: u32, f: u32) -> Result<(), Cause>
     ensures { Gives (fetchable size f) result }
@@ -45,7 +45,7 @@ fn fetchable(size: u32, f: u32) -> Result<(), Cause>
     }
 }
 
-/// What the memory answered goes into D with what it issues, and F on to its guess.
+/// The word that the memory answers goes into D with the instruction that it issues, and F on to its guess.
 #[inline(always)]
 fn fill_d<P: Predictor>(
     answer: Result<u32, Unserved>,
@@ -89,8 +89,8 @@ fn fill_d<P: Predictor>(
     }
 }
 
-/// After a rollback D is empty, and F is where the redirect says; while D stays, so does F; else what arrives goes into D,
-/// and F on to its guess. The memory is asked for the word at F, or passes the clock idle.
+/// After a rollback D is empty, and F is where the redirect says; while D stalls, F stays; else what arrives goes into D, and
+/// F on to its guess. The memory reads the word at F, or idles.
 #[inline(always)]
 #[tactic(auto, using(crate::proofs::FetchAsked::fetch_passes, crate::proofs::FetchAsked::fetch_faults, crate::proofs::FetchAsked::fetch_asked))]
 pub fn fetch_stage<P: Predictor, I: Memory>(

@@ -31,7 +31,7 @@ module _ (size : ℕ) where
   abbrev pub executes : Latches → Option Reply → ExecuteOut
   executes k reply = execute_stage k.m k.x (completes k reply).flow
 
-  -- what a register is, to an instruction in D
+  -- the registers as the instruction in D reads them
   abbrev pub reads : Registers → Latches → Option Reply → Register → Option ℕ
   reads g k reply =
       values_in_flight
@@ -85,7 +85,7 @@ stop_notes = record {
   stop = true;
 }
 
--- a hazard keeps D where X moved on
+-- a hazard stalls D while X moves
 abbrev pub move_notes : ℕ → Registers → Latches → Option Reply → Option Reply → Notes
 move_notes size g k reply answer = record {
   fetch_wait = is_wait answer;
@@ -114,8 +114,8 @@ module _ {P I D : Type 0} (table : TableOf P) (instructions : Meaning I) (words 
         (bus_request (data_request (data_size words m) m.latches.m)) reply n.«data»
     pub registers : n.registers ≡ write_back m.registers m.latches.w
     pub text_asked : Asked instructions m.instructions
-        (bus_request (plans (data_size words m) (text_size instructions m) n.registers m.latches
-        reply))
+        (bus_request
+        (plans (data_size words m) (text_size instructions m) n.registers m.latches reply))
         answer n.instructions
     pub latches : n.latches
         ≡ latches_after (data_size words m) (text_size instructions m) n.registers m.latches reply

@@ -17,7 +17,7 @@ abbrev pub occupancy : {T : Type 0} → Latch T → ℕ
 occupancy Empty = 0
 occupancy l = 1
 
--- how many stand in latches
+-- how many are in flight
 abbrev pub in_flight_count : Latches → ℕ
 in_flight_count k = occupancy k.d + occupancy k.x + occupancy k.m + occupancy k.w
 
@@ -31,7 +31,7 @@ abbrev pub if_rolled : Flow → ℕ → ℕ
 if_rolled RollsBack n = n
 if_rolled flow n = 0
 
--- how many are removed: a rollback from data removes X, and any rollback D
+-- how many are dropped: a rollback from data drops X, and any rollback D
 abbrev pub dropped_count : Latches → Flow → Flow → ℕ
 dropped_count k by-data by-execute =
     if_rolled by-data (occupancy k.x) + if_rolled by-execute (occupancy k.d)

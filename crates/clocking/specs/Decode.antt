@@ -61,7 +61,7 @@ abbrev pub values_in_flight : Latch Executed → Latch Executed → Latch Comple
 values_in_flight x m answer w g r =
     or_else (from_x x r) (or_else (from_m m answer r) (or_else (from_w w r) (Some (value_of g r))))
 
--- what there is to read: x0, and what is not read, is 0
+-- an operand: x0, and what is not read, is 0
 abbrev pub source : (Register → Option ℕ) → Option Register → Option ℕ
 source f None = Some 0
 source f (Some r) = f r

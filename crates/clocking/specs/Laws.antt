@@ -33,14 +33,14 @@ use Rattle.clocking.specs.declared.latch.Latches.{Latches}
 use Rattle.clocking.specs.declared.state.Core.{Core}
 use Rattle.clocking.specs.declared.state.Event.{Event}
 
--- ---- what stands in a latch
+-- ---- a latch
 
--- whether something does
+-- whether it is not empty
 abbrev pub is_occupied : {T : Type 0} → Latch T → Bool
 is_occupied Empty = false
 is_occupied l = true
 
--- its address, if something does
+-- the address of its instruction, if there is one
 abbrev pub standing : {T : Type 0} → (T → ℕ) → Latch T → List ℕ
 standing f Empty = []
 standing f (Faulting stop) = stop.address ∷ []
@@ -79,7 +79,7 @@ abbrev pub m_request : ℕ → Latch Executed → Result (Option Request) Cause
 m_request size (Full e) = request size e.access e.result e.b
 m_request size m = Ok None
 
--- whether it has a cause, of its own or by its address
+-- whether it faults, of its own or by its address
 abbrev pub m_faults : ℕ → Latch Executed → Bool
 m_faults size (Faulting stop) = true
 m_faults size m = is_err (m_request size m)
@@ -93,7 +93,7 @@ abbrev pub m_writes : Latch Executed → Register → Bool
 m_writes (Full e) r = gives e.rd r
 m_writes m r = false
 
--- a word that is answered is what a load takes its value from; all others have it already
+-- a load takes its value from the word that is answered; all others have it already
 abbrev pub value_with : Executed → Option Reply → ℕ
 value_with e (Some (Ok (Word w))) = loaded e.access e.result w
 value_with e reply = e.result
@@ -119,7 +119,7 @@ abbrev pub leads_elsewhere : Result Effect Cause → ℕ → Bool
 leads_elsewhere (Ok e) guess = not (e.next == guess)
 leads_elsewhere (Err c) guess = false
 
--- whether it has no cause and another next address than was guessed
+-- whether it does not fault, and its next address is not the guessed one
 abbrev pub x_is_misguessed : Latch Decoded → Bool
 x_is_misguessed (Full d) = leads_elsewhere (effect_of d) d.guess
 x_is_misguessed x = false
@@ -170,7 +170,7 @@ module _ (size : ℕ) (k : Latches) (reply : Option Reply) where
   abbrev pub x_stalls : Bool
   x_stalls = is_wait reply && is_occupied k.x
 
-  -- whether D may move on, as far as the stages before it are concerned
+  -- whether X leaves D free to move on
   abbrev pub x_is_free : Bool
   x_is_free = not rolls && not x_stalls
 

@@ -15,14 +15,14 @@ logs j = record {
   clocks = record { records = records j.clocks; spare = spare j.clocks };
 }
 
--- the logs stand in the slots in which they stood
+-- the logs keep their slots
 pub record SameSlots (j k : Journal) : Type 0 where
   pub retired_room : room k.retirements ≡ room j.retirements
   pub clock_room : room k.clocks ≡ room j.clocks
   pub retired_lent : k.retirements.slots.ghost_name ≡ j.retirements.slots.ghost_name
   pub clock_lent : k.clocks.slots.ghost_name ≡ j.clocks.slots.ghost_name
 
--- these events have come into the two logs
+-- k has these events beyond those of j
 pub record Adds (j : Journal) (es : List Event) (k : Journal) : Type 0 where
   pub added : logs k ≡ with_events (logs j) es
   pub slots : SameSlots j k

@@ -43,19 +43,19 @@ data_balance m o r = refl
 abbrev Executes : Flow → Latch Executed → Latch Decoded → ExecuteOut → Type 0
 Executes flow m x o = occupancy o.m + staying o.flow x + if_rolled flow (occupancy x) ≡ staying flow m + occupancy x
 
-turned_balance : (m : Latch Executed) (d : Decoded) (e : Executed) (b : Bool) → Executes Moves m (Full d) (redirect_unless e b)
-turned_balance m d e true = refl
-turned_balance m d e b = refl
+redirect_balance : (m : Latch Executed) (d : Decoded) (e : Executed) (b : Bool) → Executes Moves m (Full d) (redirect_unless e b)
+redirect_balance m d e true = refl
+redirect_balance m d e b = refl
 
-checked_balance : (m : Latch Executed) (d : Decoded) (o : Result Executed Cause) → Executes Moves m (Full d) (check_guess d.address d.guess o)
-checked_balance m d (Err c) = refl
-checked_balance m d (Ok e) = turned_balance m d e (eqb e.next d.guess)
+guess_balance : (m : Latch Executed) (d : Decoded) (o : Result Executed Cause) → Executes Moves m (Full d) (check_guess d.address d.guess o)
+guess_balance m d (Err c) = refl
+guess_balance m d (Ok e) = redirect_balance m d e (eqb e.next d.guess)
 
 execute_balance : (flow : Flow) (m : Latch Executed) (x : Latch Decoded) → Executes flow m x (execute_stage m x flow)
 execute_balance RollsBack m x = omega arith
 execute_balance Stalls m Empty = omega arith
 execute_balance Stalls m x = omega arith
-execute_balance Moves m (Full d) = checked_balance m d (execute d)
+execute_balance Moves m (Full d) = guess_balance m d (execute d)
 execute_balance Moves m x = refl
 
 -- X has what stayed there and what D gave; D is dropped after any rollback

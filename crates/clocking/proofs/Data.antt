@@ -21,7 +21,7 @@ use Rattle.clocking.specs.Data.{DataOut, data_request, complete, completes_with,
 use Rattle.clocking.specs.Decode.{from_m, or_else}
 use Rattle.clocking.proofs.Chain.{Reach, Broken, faults_on, HoldsW, HoldsM, behindW, behindM, bytes_at}
 use Rattle.clocking.proofs.Forward.{Known, layer, known_layer, Pairs, Runs, At, at, pairs, runs}
-use Rattle.clocking.proofs.Partial.{Done, settled_by, settle, moved, executed_at, done_at, completed_at, after_at}
+use Rattle.clocking.proofs.Partial.{Done, settle_by, settle, state_after, executed_at, done_at, completed_at, after_at}
 use Rattle.clocking.proofs.Served.{Bytes}
 
 -- what is still in M after the stage
@@ -35,7 +35,7 @@ Back flow r = Unit {0}
 
 -- what the reply makes of M is what the step of the sequential machine has
 abbrev Completes : State → (ℕ → ℕ) → Executed → ℕ → Result Done Cause → Type 0
-Completes s n e v o = (Ok (complete e v) ≡ then o (λ d. Ok (complete d.run d.value))) × (n ≡ bytes_at s (then o (λ d. Ok (moved s d))))
+Completes s n e v o = (Ok (complete e v) ≡ then o (λ d. Ok (complete d.run d.value))) × (n ≡ bytes_at s (then o (λ d. Ok (state_after s d))))
 
 abbrev Good : State → (ℕ → ℕ) → Executed → Option Reply → Result Done Cause → Type 0
 Good s n e (Some (Ok (Word w))) o = Completes s n e (loaded e.access e.result w) o
@@ -43,7 +43,7 @@ Good s n e (Some (Err Wait)) o = n ≡ s.bytes
 Good s n e (Some (Err Outside)) o = ⊥
 Good s n e t o = Completes s n e e.result o
 
-good_by : (size : ℕ) (s : State) (n : ℕ → ℕ) (e : Executed) (q : Option Request) → InRange size (Ok q) → (t : Option Reply) → Bytes size q t s.bytes n → Good s n e t (settled_by s.bytes e (Ok q))
+good_by : (size : ℕ) (s : State) (n : ℕ → ℕ) (e : Executed) (q : Option Request) → InRange size (Ok q) → (t : Option Reply) → Bytes size q t s.bytes n → Good s n e t (settle_by s.bytes e (Ok q))
 good_by size s n e None i None h = (refl, h)
 good_by size s n e (Some (Read a)) i (Some (Ok (Word w))) h = rw h.1 (refl, h.2)
 good_by size s n e (Some (Write a v l)) i (Some (Ok Did)) h = (refl, h.1)
@@ -56,7 +56,7 @@ idle_same size None m n h = h
 idle_same size (Some r) m n h = absurd h
 
 module _ (world : World) where
-  done_so : (s : State) (e : Executed) (o : Result (Option Request) Cause) → Ok e ≡ executed_at world s → request world.data_size e.access e.result e.b ≡ o → done_at world s ≡ settled_by s.bytes e o
+  done_so : (s : State) (e : Executed) (o : Result (Option Request) Cause) → Ok e ≡ executed_at world s → request world.data_size e.access e.result e.b ≡ o → done_at world s ≡ settle_by s.bytes e o
   unfolding done_at settle
   done_so s e o i q = rw (← i, q)
 

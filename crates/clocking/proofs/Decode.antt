@@ -18,7 +18,7 @@ use Rattle.clocking.specs.Decode.{DecodeOut, source, with_operands, decode_word,
 use Rattle.clocking.proofs.Chain.{Reach, faults_on, HoldsD, HoldsX, behindD, behindX, on_if}
 use Rattle.clocking.proofs.Execute.{Redirects, Onward}
 use Rattle.clocking.proofs.Forward.{KnownRead}
-use Rattle.clocking.proofs.Partial.{operated, fetched_at, decoded_at, executed_at, done_at, after_at}
+use Rattle.clocking.proofs.Partial.{with_operands_at, fetched_at, decoded_at, executed_at, done_at, after_at}
 
 abbrev pub SourcedRead : Flow → (Register → Option ℕ) → Reach → Type 0
 SourcedRead Moves f r = KnownRead f r
@@ -55,7 +55,7 @@ module _ (world : World) where
   unfolding fetched_at
   word_of s f e = let z = word_by (fetch_at s) f s.address e in record { fetches = z.0; here = z.1; issues = z.2 }
 
-  decoded_so : (s : State) (f : Fetched) → WordOf s f → (g : ℕ) → decoded_at world s g ≡ then f.issued (λ i. Ok (operated s f.word g i))
+  decoded_so : (s : State) (f : Fetched) → WordOf s f → (g : ℕ) → decoded_at world s g ≡ then f.issued (λ i. Ok (with_operands_at s f.word g i))
   unfolding decoded_at
   decoded_so s f z g = rw (z.fetches, z.issues)
 

@@ -76,31 +76,31 @@ module _ (world : World) where
   ended_on : (g : ℕ) (c : Cause) (r : Reach) → Err c ≡ r → ◌≡◌ {A = Reach} (Err c) (then r (guessed g))
   ended_on g c r e = subst (λ (z : Reach). ◌≡◌ {A = Reach} (Err c) (then z (guessed g))) e refl
 
-  turned_kept : (s : State) (d : Decoded) (e : Executed) → Ok e ≡ executed_at world s → Runs s (Ok e) (after_at world s) → (b : Bool) → eqb e.next d.guess ≡ b
+  redirect_kept : (s : State) (d : Decoded) (e : Executed) → Ok e ≡ executed_at world s → Runs s (Ok e) (after_at world s) → (b : Bool) → eqb e.next d.guess ≡ b
       → ExecuteKept Moves (Ok s) Empty (Full d) (redirect_unless e b)
-  turned_kept s d e h w true q = record {
+  redirect_kept s d e h w true q = record {
     m = h;
     onward = stays_on s e d.guess (after_at world s) w q;
     source = λ f k. known_x s e d.guess (after_at world s) w f k;
   }
-  turned_kept s d e h w false q = record { m = h; onward = turns_off s e (after_at world s) w; source = λ f k. tt }
+  redirect_kept s d e h w false q = record { m = h; onward = turns_off s e (after_at world s) w; source = λ f k. tt }
 
-  checked_kept : (s : State) (d : Decoded) → d.address ≡ s.address → (o : Result Executed Cause) → o ≡ executed_at world s → Runs s o (after_at world s)
+  guess_kept : (s : State) (d : Decoded) → d.address ≡ s.address → (o : Result Executed Cause) → o ≡ executed_at world s → Runs s o (after_at world s)
       → ExecuteKept Moves (Ok s) Empty (Full d) (check_guess d.address d.guess o)
-  checked_kept s d i (Err c) h w = record {
+  guess_kept s d i (Err c) h w = record {
     m = (i, h);
     onward = ended_on d.guess c (after_at world s) (ends world s c h);
     source = λ f k. known_ended _ c d.guess (after_at world s) (ends world s c h);
   }
-  checked_kept s d i (Ok e) h w = turned_kept s d e h w (eqb e.next d.guess) refl
+  guess_kept s d i (Ok e) h w = redirect_kept s d e h w (eqb e.next d.guess) refl
 
-  turned_broken : (c : Cause) (d : Decoded) (e : Executed) (b : Bool) → ExecuteKept Moves (Err c) Empty (Full d) (redirect_unless e b)
-  turned_broken c d e true = record { m = tt; onward = refl; source = λ f k. tt }
-  turned_broken c d e false = record { m = tt; onward = tt; source = λ f k. tt }
+  redirect_broken : (c : Cause) (d : Decoded) (e : Executed) (b : Bool) → ExecuteKept Moves (Err c) Empty (Full d) (redirect_unless e b)
+  redirect_broken c d e true = record { m = tt; onward = refl; source = λ f k. tt }
+  redirect_broken c d e false = record { m = tt; onward = tt; source = λ f k. tt }
 
-  checked_broken : (c : Cause) (d : Decoded) (o : Result Executed Cause) → ExecuteKept Moves (Err c) Empty (Full d) (check_guess d.address d.guess o)
-  checked_broken c d (Err z) = record { m = tt; onward = refl; source = λ f k. tt }
-  checked_broken c d (Ok e) = turned_broken c d e (eqb e.next d.guess)
+  guess_broken : (c : Cause) (d : Decoded) (o : Result Executed Cause) → ExecuteKept Moves (Err c) Empty (Full d) (check_guess d.address d.guess o)
+  guess_broken c d (Err z) = record { m = tt; onward = refl; source = λ f k. tt }
+  guess_broken c d (Ok e) = redirect_broken c d e (eqb e.next d.guess)
 
   pub execute_kept : (flow : Flow) (r : Reach) (m : Latch Executed) (x : Latch Decoded) → Back flow (behindM world r (left flow m)) → HoldsM world r (left flow m)
       → HoldsX world (behindM world r (left flow m)) x → ExecuteKept flow r (left flow m) x (execute_stage m x flow)
@@ -109,8 +109,8 @@ module _ (world : World) where
   execute_kept Stalls r m x hb hm hx = record { m = hm; onward = refl; source = λ f k. tt }
   execute_kept Moves r m Empty hb hm hx = record { m = tt; onward = refl; source = λ f k. k }
   execute_kept Moves r m (Faulting stop) hb hm hx = record { m = faults_on _ _ faulting_so r stop hx; onward = refl; source = λ f k. known_broken _ stop.cause r }
-  execute_kept Moves (Err z) m (Full d) hb hm hx = checked_broken z d (execute d)
+  execute_kept Moves (Err z) m (Full d) hb hm hx = guess_broken z d (execute d)
   execute_kept Moves (Ok s) m (Full d) hb hm hx =
       let e = executed_so s d hx in
       let i : d.address ≡ s.address = subst (λ (z : Result Decoded Cause). AtX s z) (sym hx) (at_x world s d.guess) in
-      checked_kept s d i (execute d) e (rw e (runs world s))
+      guess_kept s d i (execute d) e (rw e (runs world s))

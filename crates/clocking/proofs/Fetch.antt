@@ -32,10 +32,10 @@ guess_leads : (g : ℕ) (r : Reach) → Leads g (then r (guessed g))
 guess_leads g (Err c) = tt
 guess_leads g (Ok t) = guess_leads_by g t (eqb t.address g) refl
 
-turned_leads : (u : Option ℕ) (f : ℕ) (q : Reach) → Redirects u q → Leads (resume_at f u) q
-turned_leads None f (Err c) h = tt
-turned_leads None f (Ok s) h = absurd h
-turned_leads (Some n) f q h = h
+redirect_leads : (u : Option ℕ) (f : ℕ) (q : Reach) → Redirects u q → Leads (resume_at f u) q
+redirect_leads None f (Err c) h = tt
+redirect_leads None f (Ok s) h = absurd h
+redirect_leads (Some n) f q h = h
 
 -- what is asked for f, by whether a word may stand there and whether it is within the memory
 abbrev pub asked_if : ℕ → Bool → Bool → Result (Option Request) Cause
@@ -91,7 +91,7 @@ module _ (world : World) where
       → FetchKept q (fetch_stage f d flow (fetch_request world.text_size f flow) x u)
   fetch_kept Moves f d t x u n r q h a hd hf o = by_size q f t x n (eqb (f % 4) 0) (ltb f world.text_size) refl refl h a (rw o hf)
   fetch_kept Stalls f d t x u n r q h a hd hf o = rw o (record { d = hd; f = hf })
-  fetch_kept RollsBack f d t x u n r q h a hd hf o = record { d = tt; f = turned_leads u f q o }
+  fetch_kept RollsBack f d t x u n r q h a hd hf o = record { d = tt; f = redirect_leads u f q o }
 
 -- ---- what fetching asks leaves the words as they are
 

@@ -21,7 +21,7 @@ use Rattle.sequential.specs.declared.record.Stop.{Stop}
 use Rattle.clocking.specs.Clock.{completes, executes, reads, decodes, plans, fetches, latches_after, move_notes, Moved, Halted, Worked, Cycled}
 use Rattle.clocking.specs.WriteBack.{stop_of, retirement_of}
 use Rattle.clocking.specs.Counting.{has_fetched, dropped_count, one_if, Counted, is_wait, stalls, moves, rolls_back}
-use Rattle.clocking.specs.Laws.{is_occupied, x_writes, x_loads, x_value, m_writes, m_value, w_writes, w_value, at_w, at_m, at_x, at_d, flight, m_faults, x_is_misguessed, x_next, rolls_by_data, rolls_by_execute, rolls, is_missing, is_short, has_hazard, d_stalls, d_is_free, f_asks, removed, forward, in_x, Decoding, guess_of, Fetching, Flight, GoingOn, Ending, LawsBy, ClockLaws}
+use Rattle.clocking.specs.Laws.{is_occupied, x_writes, x_loads, x_value, m_writes, m_value, w_writes, w_value, at_w, at_m, at_x, at_d, flight, m_faults, x_is_misguessed, x_next, rolls_by_data, rolls_by_execute, rolls, is_missing, is_short, has_hazard, d_stalls, d_is_free, f_asks, dropped_addresses, forward, in_x, Decoding, guess_of, Fetching, Flight, GoingOn, Ending, LawsBy, ClockLaws}
 use Rattle.clocking.specs.Ports.{TableOf, Asked, guess_after, arrival, bus_request}
 use Rattle.clocking.specs.Data.{data_request}
 use Rattle.clocking.specs.Execute.{execute_stage}
@@ -401,10 +401,10 @@ module _ (size text : ℕ) (k : Latches) (g : Registers) (reply : Option Reply) 
     abbrev kept : List ℕ
     kept = at_m k.m ++ (left (data_flow c w) (at_x k.x) ++ left (two c w held wrong) (at_d k.d))
 
-    before_so : flight k ≡ at_w k.w ++ (kept ++ removed size k reply)
+    before_so : flight k ≡ at_w k.w ++ (kept ++ dropped_addresses size k reply)
     before_so =
         ap (λ l. at_w k.w ++ l)
-        (ap (λ l. at_m k.m ++ l) (splits c w held wrong (at_x k.x) (at_d k.d)) ∙ sym (append_assoc (at_m k.m) _ (removed size k reply)))
+        (ap (λ l. at_m k.m ++ l) (splits c w held wrong (at_x k.x) (at_d k.d)) ∙ sym (append_assoc (at_m k.m) _ (dropped_addresses size k reply)))
 
     after_so : From k.f x → flight next ≡ kept ++ new_if k.f (has_fetched (plans size text g k reply) x)
     after_so i =
@@ -416,7 +416,7 @@ module _ (size text : ℕ) (k : Latches) (g : Registers) (reply : Option Reply) 
         ∙ ap (λ flow. (at_m k.m ++ (left flow (at_x k.x) ++ left (executes size k reply).flow (at_d k.d))) ++ new_if k.f (has_fetched (plans size text g k reply) x)) one_flow
         ∙ ap (λ flow. (at_m k.m ++ (left (data_flow c w) (at_x k.x) ++ left flow (at_d k.d))) ++ new_if k.f (has_fetched (plans size text g k reply) x)) two_flow
 
-    dropped_by : dropped_count k (completes size k reply).flow (executes size k reply).flow ≡ length (removed size k reply)
+    dropped_by : dropped_count k (completes size k reply).flow (executes size k reply).flow ≡ length (dropped_addresses size k reply)
     dropped_by =
         ap (λ flow. dropped_count k flow (executes size k reply).flow) one_flow ∙ ap (dropped_count k (data_flow c w)) two_flow
         ∙ gone_length c w held wrong (at_x k.x) (at_d k.d) _ _ (x_length k.x) (d_length k.d)

@@ -68,13 +68,13 @@ goes_to_w size (Full e) r h = memory_w e (request size e.access e.result e.b) r 
 abbrev Executes : Flow → Latch Executed → Latch Decoded → ExecuteOut → Type 0
 Executes flow m x o = at_m o.m ++ staying o.flow (at_x x) ≡ staying flow (at_m m) ++ left flow (at_x x)
 
-turned_line : (m : Latch Executed) (d : Decoded) (e : Effect) (b : Bool) → Executes Moves m (Full d) (redirect_unless (into_m d e) b)
-turned_line m d e true = refl
-turned_line m d e false = refl
+redirect_line : (m : Latch Executed) (d : Decoded) (e : Effect) (b : Bool) → Executes Moves m (Full d) (redirect_unless (into_m d e) b)
+redirect_line m d e true = refl
+redirect_line m d e false = refl
 
-checked_line : (m : Latch Executed) (d : Decoded) (o : Result Effect Cause) → Executes Moves m (Full d) (check_guess d.address d.guess (then o (λ e. Ok (into_m d e))))
-checked_line m d (Err c) = refl
-checked_line m d (Ok e) = turned_line m d e (eqb e.next d.guess)
+guess_line : (m : Latch Executed) (d : Decoded) (o : Result Effect Cause) → Executes Moves m (Full d) (check_guess d.address d.guess (then o (λ e. Ok (into_m d e))))
+guess_line m d (Err c) = refl
+guess_line m d (Ok e) = redirect_line m d e (eqb e.next d.guess)
 
 pub execute_line : (flow : Flow) (m : Latch Executed) (x : Latch Decoded) → Executes flow m x (execute_stage m x flow)
 execute_line RollsBack m x = refl
@@ -83,20 +83,20 @@ execute_line Stalls m (Faulting stop) = refl
 execute_line Stalls m (Full d) = refl
 execute_line Moves m Empty = refl
 execute_line Moves m (Faulting stop) = refl
-execute_line Moves m (Full d) = checked_line m d (effect_of d)
+execute_line Moves m (Full d) = guess_line m d (effect_of d)
 
-turned_m : (d : Decoded) (e : Effect) (b : Bool) → at_m (redirect_unless (into_m d e) b).m ≡ at_x (Full d)
-turned_m d e true = refl
-turned_m d e false = refl
+redirect_m : (d : Decoded) (e : Effect) (b : Bool) → at_m (redirect_unless (into_m d e) b).m ≡ at_x (Full d)
+redirect_m d e true = refl
+redirect_m d e false = refl
 
-checked_m : (d : Decoded) (o : Result Effect Cause) → at_m (check_guess d.address d.guess (then o (λ e. Ok (into_m d e)))).m ≡ at_x (Full d)
-checked_m d (Err c) = refl
-checked_m d (Ok e) = turned_m d e (eqb e.next d.guess)
+guess_m : (d : Decoded) (o : Result Effect Cause) → at_m (check_guess d.address d.guess (then o (λ e. Ok (into_m d e)))).m ≡ at_x (Full d)
+guess_m d (Err c) = refl
+guess_m d (Ok e) = redirect_m d e (eqb e.next d.guess)
 
 moves_to_m : (m : Latch Executed) (x : Latch Decoded) → at_m (execute_stage m x Moves).m ≡ at_x x
 moves_to_m m Empty = refl
 moves_to_m m (Faulting stop) = refl
-moves_to_m m (Full d) = checked_m d (effect_of d)
+moves_to_m m (Full d) = guess_m d (effect_of d)
 
 waits_in_m : (m : Latch Executed) (x : Latch Decoded) → at_m (execute_stage m x Stalls).m ≡ at_m m
 waits_in_m m Empty = refl

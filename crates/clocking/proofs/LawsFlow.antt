@@ -113,13 +113,13 @@ execute_flow Stalls false g = Moves
 execute_flow Moves h true = RollsBack
 execute_flow Moves h false = Moves
 
-turned_flow : (e : Executed) (b : Bool) → (redirect_unless e b).flow ≡ execute_flow Moves true (not b)
-turned_flow e true = refl
-turned_flow e false = refl
+redirect_flow : (e : Executed) (b : Bool) → (redirect_unless e b).flow ≡ execute_flow Moves true (not b)
+redirect_flow e true = refl
+redirect_flow e false = refl
 
-checked_flow : (d : Decoded) (o : Result Effect Cause) → (check_guess d.address d.guess (then o (λ e. Ok (into_m d e)))).flow ≡ execute_flow Moves true (leads_elsewhere o d.guess)
-checked_flow d (Err c) = refl
-checked_flow d (Ok e) = turned_flow (into_m d e) (eqb e.next d.guess)
+guess_flow : (d : Decoded) (o : Result Effect Cause) → (check_guess d.address d.guess (then o (λ e. Ok (into_m d e)))).flow ≡ execute_flow Moves true (leads_elsewhere o d.guess)
+guess_flow d (Err c) = refl
+guess_flow d (Ok e) = redirect_flow (into_m d e) (eqb e.next d.guess)
 
 pub execute_flows : (flow : Flow) (m : Latch Executed) (x : Latch Decoded) → (execute_stage m x flow).flow ≡ execute_flow flow (is_occupied x) (x_is_misguessed x)
 execute_flows RollsBack m x = refl
@@ -128,7 +128,7 @@ execute_flows Stalls m (Faulting stop) = refl
 execute_flows Stalls m (Full d) = refl
 execute_flows Moves m Empty = refl
 execute_flows Moves m (Faulting stop) = refl
-execute_flows Moves m (Full d) = checked_flow d (effect_of d)
+execute_flows Moves m (Full d) = guess_flow d (effect_of d)
 
 early_by : (how : Option Access) (v : ℕ) → early_value how v ≡ cond (is_load how) None (Some v)
 early_by None v = refl
@@ -138,16 +138,16 @@ early_by (Some (Store k)) v = refl
 abbrev pub XGives : Latch Executed → Latch Decoded → Register → Type 0
 XGives now x r = from_x now r ≡ cond (x_writes x r) (Some (cond (x_loads x) None (Some (x_value x)))) None
 
-turned_gives : (d : Decoded) (e : Effect) (r : Register) (b : Bool)
+redirect_gives : (d : Decoded) (e : Effect) (r : Register) (b : Bool)
     → from_x (redirect_unless (into_m d e) b).m r ≡ cond (gives d.rd r) (Some (cond (is_load (access d.instruction)) None (Some e.result))) None
-turned_gives d e r true = ap (λ z. cond (gives d.rd r) (Some z) None) (early_by (access d.instruction) e.result)
-turned_gives d e r false = ap (λ z. cond (gives d.rd r) (Some z) None) (early_by (access d.instruction) e.result)
+redirect_gives d e r true = ap (λ z. cond (gives d.rd r) (Some z) None) (early_by (access d.instruction) e.result)
+redirect_gives d e r false = ap (λ z. cond (gives d.rd r) (Some z) None) (early_by (access d.instruction) e.result)
 
-checked_gives : (d : Decoded) (r : Register) (o : Result Effect Cause)
+guess_gives : (d : Decoded) (r : Register) (o : Result Effect Cause)
     → from_x (check_guess d.address d.guess (then o (λ e. Ok (into_m d e)))).m r
     ≡ cond (is_ok o && gives d.rd r) (Some (cond (is_load (access d.instruction)) None (Some (result_of o)))) None
-checked_gives d r (Err c) = refl
-checked_gives d r (Ok e) = turned_gives d e r (eqb e.next d.guess)
+guess_gives d r (Err c) = refl
+guess_gives d r (Ok e) = redirect_gives d e r (eqb e.next d.guess)
 
 -- X has its result where it moves on, and where it is empty it gives nothing
 abbrev pub XReady : Flow → Latch Decoded → Type 0
@@ -162,21 +162,21 @@ x_gives Stalls m (Faulting stop) r h = absurd h
 x_gives Stalls m (Full d) r h = absurd h
 x_gives Moves m Empty r h = refl
 x_gives Moves m (Faulting stop) r h = refl
-x_gives Moves m (Full d) r h = checked_gives d r (effect_of d)
+x_gives Moves m (Full d) r h = guess_gives d r (effect_of d)
 
-turned_to : (e : Executed) (b : Bool) → not b ≡ true → (redirect_unless e b).redirect ≡ Some e.next
-turned_to e true i = absurd (false≢true i)
-turned_to e false i = refl
+redirect_to : (e : Executed) (b : Bool) → not b ≡ true → (redirect_unless e b).redirect ≡ Some e.next
+redirect_to e true i = absurd (false≢true i)
+redirect_to e false i = refl
 
-checked_to : (d : Decoded) (o : Result Effect Cause) → leads_elsewhere o d.guess ≡ true
+guess_to : (d : Decoded) (o : Result Effect Cause) → leads_elsewhere o d.guess ≡ true
     → (check_guess d.address d.guess (then o (λ e. Ok (into_m d e)))).redirect ≡ Some (next_of o)
-checked_to d (Err c) i = absurd (false≢true i)
-checked_to d (Ok e) i = turned_to (into_m d e) (eqb e.next d.guess) i
+guess_to d (Err c) i = absurd (false≢true i)
+guess_to d (Ok e) i = redirect_to (into_m d e) (eqb e.next d.guess) i
 
 pub redirects : (m : Latch Executed) (x : Latch Decoded) → x_is_misguessed x ≡ true → (execute_stage m x Moves).redirect ≡ Some (x_next x)
 redirects m Empty i = absurd (false≢true i)
 redirects m (Faulting stop) i = absurd (false≢true i)
-redirects m (Full d) i = checked_to d (effect_of d) i
+redirects m (Full d) i = guess_to d (effect_of d) i
 
 -- ---- decode: whether something stands in D, and whether it lacks an operand
 

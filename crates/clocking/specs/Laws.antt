@@ -41,22 +41,22 @@ is_occupied Empty = false
 is_occupied l = true
 
 -- the address of its instruction, if there is one
-abbrev pub standing : {T : Type 0} → (T → ℕ) → Latch T → List ℕ
-standing f Empty = []
-standing f (Faulting stop) = stop.address ∷ []
-standing f (Full x) = f x ∷ []
+abbrev pub address_in : {T : Type 0} → (T → ℕ) → Latch T → List ℕ
+address_in f Empty = []
+address_in f (Faulting stop) = stop.address ∷ []
+address_in f (Full x) = f x ∷ []
 
 abbrev pub at_w : Latch Completed → List ℕ
-at_w w = standing (λ c. c.address) w
+at_w w = address_in (λ c. c.address) w
 
 abbrev pub at_m : Latch Executed → List ℕ
-at_m m = standing (λ e. e.address) m
+at_m m = address_in (λ e. e.address) m
 
 abbrev pub at_x : Latch Decoded → List ℕ
-at_x x = standing (λ d. d.address) x
+at_x x = address_in (λ d. d.address) x
 
 abbrev pub at_d : Latch Fetched → List ℕ
-at_d d = standing (λ f. f.address) d
+at_d d = address_in (λ f. f.address) d
 
 -- the addresses of all that is in flight, the oldest first
 abbrev pub flight : Latches → List ℕ
@@ -207,8 +207,8 @@ module _ (size : ℕ) (k : Latches) (reply : Option Reply) where
   f_asks text = if d_is_free && within text k.f then Some (Read k.f) else None
 
   -- what a rollback removes
-  abbrev pub removed : List ℕ
-  removed =
+  abbrev pub dropped_addresses : List ℕ
+  dropped_addresses =
       if rolls_by_data then at_x k.x ++ at_d k.d
       else (if rolls_by_execute then at_d k.d else [])
 
@@ -277,11 +277,11 @@ module _ (size : ℕ) (k : Latches) (reply : Option Reply) where
         ≡ (if is_wait reply then at_m k.m else (if rolls_by_data then [] else at_x k.x))
     pub kept : List ℕ
     pub fetched : List ℕ
-    pub before : flight k ≡ at_w k.w ++ (kept ++ removed)
+    pub before : flight k ≡ at_w k.w ++ (kept ++ dropped_addresses)
     pub after : flight n ≡ kept ++ fetched
     pub fetches_at : (fetched ≡ []) ⊎ (fetched ≡ k.f ∷ [])
     pub retired_count : d.retired ≡ c.retired + length (at_w k.w)
-    pub dropped_count : d.dropped ≡ (c.dropped + length removed) % 2 ^ 32
+    pub dropped_count : d.dropped ≡ (c.dropped + length dropped_addresses) % 2 ^ 32
     pub fetched_count : d.fetched ≡ c.fetched + length fetched
 
 -- ---- the laws of a clock

@@ -21,7 +21,7 @@ use Rattle.sequential.specs.declared.record.Stop.{Stop}
 use Rattle.clocking.specs.Clock.{completes, executes, reads, decodes, plans, fetches, latches_after, move_notes, Moved, Halted, Worked, Cycled}
 use Rattle.clocking.specs.WriteBack.{stop_of, retirement_of}
 use Rattle.clocking.specs.Counting.{has_fetched, dropped_count, one_if, Counted, is_wait, stalls, moves, rolls_back}
-use Rattle.clocking.specs.Laws.{is_occupied, x_writes, x_loads, x_value, m_writes, m_value, w_writes, w_value, at_w, at_m, at_x, at_d, flight, m_faults, x_is_misguessed, x_next, rolls_by_data, rolls_by_execute, rolls, is_missing, is_short, has_hazard, d_stalls, d_is_free, f_asks, dropped_addresses, forward, in_x, Decoding, guess_of, Fetching, Flight, GoingOn, Ending, LawsBy, ClockLaws}
+use Rattle.clocking.specs.Laws.{is_occupied, x_writes, x_loads, x_value, m_writes, m_value, w_writes, w_value, at_w, at_m, at_x, at_d, flight, m_faults, x_is_misguessed, x_next, rolls_by_data, rolls_by_execute, rolls, is_missing, is_short, has_hazard, d_stalls, d_is_free, f_asks, dropped_addresses, forward, in_x, DecodeLaw, guess_of, FetchLaw, FlightLaw, GoingOn, Ending, LawsBy, ClockLaws}
 use Rattle.clocking.specs.Ports.{TableOf, Asked, guess_after, arrival, bus_request}
 use Rattle.clocking.specs.Data.{data_request}
 use Rattle.clocking.specs.Execute.{execute_stage}
@@ -328,7 +328,7 @@ module _ (size text : ℕ) (k : Latches) (g : Registers) (reply : Option Reply) 
   decode_at : (flow : Flow) → (executes size k reply).flow ≡ flow → (decodes size g k reply).x ≡ (decode_stage (reads size g k reply) k.x k.d flow).x
   decode_at flow e = ap (λ flow. (decode_stage (reads size g k reply) k.x k.d flow).x) e
 
-  decoding_so : Decoding size k reply (value_of g) (decodes size g k reply).x
+  decoding_so : DecodeLaw size k reply (value_of g) (decodes size g k reply).x
   decoding_so = record {
     rolls_back = λ e. decode_at RollsBack (two_flow ∙ two_rolls c w held wrong e);
     stalls = λ e. decode_at Stalls (two_flow ∙ two_stalls c w held wrong exclusive e) ∙ stays_with k.x k.d;
@@ -423,7 +423,7 @@ module _ (size text : ℕ) (k : Latches) (g : Registers) (reply : Option Reply) 
 
     flight_so : From k.f x → (a b : Counts) (retires : Bool) → one_if retires ≡ length (at_w k.w)
         → Counted a (has_fetched (plans size text g k reply) x) retires (dropped_count k (completes size k reply).flow (executes size k reply).flow) b
-        → Flight size k reply a next b
+        → FlightLaw size k reply a next b
     flight_so i a b retires e q = record {
       to_w = goes_to_w size k.m reply h;
       to_m = ap (λ flow. at_m (execute_stage k.m k.x flow).m) one_flow ∙ goes_to_m c w k.m k.x exclusive;
@@ -458,7 +458,7 @@ module _ (size text : ℕ) (k : Latches) (g : Registers) (reply : Option Reply) 
           q.1 ∙ guess_so table p k.f v,
         ))
 
-    fetching_so : Fetching size k reply text (λ v. guess_of table p k.f (decoded v)) answer (next got)
+    fetching_so : FetchLaw size k reply text (λ v. guess_of table p k.f (decoded v)) answer (next got)
     fetching_so = record {
       data_rolls = rolled_by_data got;
       execute_rolls = rolled_by_execute got;
@@ -490,12 +490,12 @@ module _ {P I D : Type 0} (table : TableOf P) (instructions : Meaning I) (words 
         runs_on = h.runs_on;
         data_asked = subst (λ q. Asked words m.«data» q h.reply n.«data») (asks_same size k.m) h.data_asked;
         text_asked = subst (λ q. Asked instructions m.instructions q h.answer n.instructions) (sent_text size text k g h.reply asked) h.text_asked;
-        decoding = subst (λ l. Decoding size k h.reply (value_of g) l.x) (sym h.latches) (decoding_so size text k g h.reply asked);
+        decoding = subst (λ l. DecodeLaw size k h.reply (value_of g) l.x) (sym h.latches) (decoding_so size text k g h.reply asked);
         fetching =
-            subst (λ l. Fetching size k h.reply text (λ w. guess_of table n.predictor k.f (decoded w)) h.answer l) (sym h.latches)
+            subst (λ l. FetchLaw size k h.reply text (λ w. guess_of table n.predictor k.f (decoded w)) h.answer l) (sym h.latches)
             (fetching_so size text k g h.reply asked table n.predictor h.answer planned);
         flights =
-            subst (λ l. Flight size k h.reply m.counts l n.counts) (sym h.latches)
+            subst (λ l. FlightLaw size k h.reply m.counts l n.counts) (sym h.latches)
             (flight_so size text k g h.reply asked (arrival table n.predictor k.f h.answer) (from_f table n.predictor k.f h.answer) m.counts n.counts (is_some (retirement_of k.w)) r.1 h.counted);
         retires = ap (λ e. is_some e.retirement) h.event ∙ r.0;
         notes = ap (λ e. e.clock.notes) h.event ∙ notes_by size text k g h.reply asked h.answer;

@@ -246,14 +246,14 @@ module _ (size : ℕ) (k : Latches) (reply : Option Reply) where
     in_x (Full f) = read_for f f.issued
 
     -- X after the clock
-    pub record Decoding (x : Latch Decoded) : Type 0 where
+    pub record DecodeLaw (x : Latch Decoded) : Type 0 where
       pub rolls_back : rolls ≡ true → x ≡ Empty
       pub stalls : x_stalls ≡ true → x ≡ k.x
       pub hazard : has_hazard ≡ true → x ≡ Empty
       pub moves : x_is_free ≡ true → is_short k.d ≡ false → x ≡ in_x k.d
 
   -- D and F after the clock; text is the size of the instruction memory, guess is F after a word
-  pub record Fetching
+  pub record FetchLaw
       (text : ℕ) (guess : ℕ → ℕ) (answer : Option Reply) (n : Latches) : Type 0 where
     pub data_rolls : rolls_by_data ≡ true → (n.d ≡ Empty) × (n.f ≡ k.f)
     pub execute_rolls : rolls_by_execute ≡ true → (n.d ≡ Empty) × (n.f ≡ x_next k.x)
@@ -271,7 +271,7 @@ module _ (size : ℕ) (k : Latches) (reply : Option Reply) where
 
   -- What retires or is dropped is in flight no more, and what is fetched is in flight then. The rest
   -- is in flight before and after, and goes from M to W and from X to M unless M waits.
-  pub record Flight (c : Counts) (n : Latches) (d : Counts) : Type 0 where
+  pub record FlightLaw (c : Counts) (n : Latches) (d : Counts) : Type 0 where
     pub to_w : at_w n.w ≡ (if is_wait reply then [] else at_m k.m)
     pub to_m : at_m n.m
         ≡ (if is_wait reply then at_m k.m else (if rolls_by_data then [] else at_x k.x))
@@ -298,10 +298,10 @@ module _ {P I D : Type 0} (table : TableOf P) (instructions : Meaning I) (words 
     pub text_asked : Asked instructions m.instructions
         (f_asks (data_size words m) m.latches reply (text_size instructions m))
         answer n.instructions
-    pub decoding : Decoding (data_size words m) m.latches reply (value_of n.registers) n.latches.x
-    pub fetching : Fetching (data_size words m) m.latches reply (text_size instructions m)
+    pub decoding : DecodeLaw (data_size words m) m.latches reply (value_of n.registers) n.latches.x
+    pub fetching : FetchLaw (data_size words m) m.latches reply (text_size instructions m)
         (λ w. guess_of table n.predictor m.latches.f (decoded w)) answer n.latches
-    pub flights : Flight (data_size words m) m.latches reply m.counts n.latches n.counts
+    pub flights : FlightLaw (data_size words m) m.latches reply m.counts n.latches n.counts
     pub retires : is_some e.retirement ≡ is_occupied m.latches.w
     pub notes : e.clock.notes ≡ record {
       fetch_wait = is_wait answer;

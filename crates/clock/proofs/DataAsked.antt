@@ -6,8 +6,8 @@ use Rattle.rv32i.specs.Causes.{Gives}
 use Rattle.rv32i.specs.Effects.{request}
 use Rattle.rv32i.specs.declared.cause.Cause.{Cause}
 use Rattle.rv32i.proofs.Given.{given}
-use Rattle.clocking.specs.Ports.{sent}
-use Rattle.clocking.specs.Data.{data_request, data_stage, completes_with, answered}
+use Rattle.clocking.specs.Ports.{bus_request}
+use Rattle.clocking.specs.Data.{data_request, data_stage, completes_with, take_reply}
 use Rattle.clocking.specs.declared.latch.Completed.{Completed}
 use Rattle.clocking.specs.declared.latch.Executed.{Executed}
 use Rattle.clocking.specs.declared.latch.Latch.{Latch}
@@ -18,17 +18,17 @@ use Rattle.clock.specs.Data.{DataDone}
 
 module _ {D : Type 0} (words : Meaning D) (old new : D) (w : Latch Completed) (flow : Flow) where
   -- M asks nothing
-  pub data_idle : (m : Latch Executed) → sent (data_request (words.view.size old) m) ≡ None → words.idles old new
+  pub data_idle : (m : Latch Executed) → bus_request (data_request (words.view.size old) m) ≡ None → words.idles old new
       → w ≡ (data_stage m (data_request (words.view.size old) m) None).w
       → flow ≡ (data_stage m (data_request (words.view.size old) m) None).flow
       → DataDone words m old new w flow
   data_idle m e i p q = record { reply = None; asked = rw e i; fills = p; flows = q }
 
   -- M has a cause
-  pub data_refused : (e : Executed) (c : Cause) → Gives (request (words.view.size old) e.access e.result e.b) (Err c) → words.idles old new
+  pub data_faults : (e : Executed) (c : Cause) → Gives (request (words.view.size old) e.access e.result e.b) (Err c) → words.idles old new
       → w ≡ Faulting (record { address = e.address; cause = c }) → flow ≡ RollsBack
       → DataDone words (Full e) old new w flow
-  data_refused e c h i p q =
+  data_faults e c h i p q =
       let z = sym (given _ _ h) in
       record { reply = None; asked = rw z i; fills = rw z p; flows = rw z q }
 
@@ -42,7 +42,7 @@ module _ {D : Type 0} (words : Meaning D) (old new : D) (w : Latch Completed) (f
 
   -- M asks
   pub data_asked : (e : Executed) (q : Request) (r : Reply) → Gives (request (words.view.size old) e.access e.result e.b) (Ok (Some q)) → words.serves old q r new
-      → w ≡ (answered e (Some r)).w → flow ≡ (answered e (Some r)).flow
+      → w ≡ (take_reply e (Some r)).w → flow ≡ (take_reply e (Some r)).flow
       → DataDone words (Full e) old new w flow
   data_asked e q r h s p z =
       let k = sym (given _ _ h) in

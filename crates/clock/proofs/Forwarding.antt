@@ -3,7 +3,7 @@ use Rattle.std.proofs.Common.{◌≡◌, Some, Option, refl}
 use mathlib.Core.Path.{fun_ext}
 use Rattle.rv32i.specs.declared.register.Register.{Register}
 use Rattle.rv32i.specs.declared.registers.Registers.{Registers}
-use Rattle.clocking.specs.Decode.{values_in_flight, from_m, from_w, arrived}
+use Rattle.clocking.specs.Decode.{values_in_flight, from_m, from_w, late_value}
 use Rattle.clocking.specs.declared.latch.Completed.{Completed}
 use Rattle.clocking.specs.declared.latch.Executed.{Executed}
 use Rattle.clocking.specs.declared.latch.Latch.{Latch}
@@ -11,7 +11,7 @@ use Rattle.clocking.specs.declared.latch.Latch.TheVariants.{Empty, Faulting, Ful
 use Rattle.clock.specs.declared.decode.Written.{Written}
 use Rattle.clock.specs.Decode.{rd_of, written_of, from_rd, given_by}
 
-m_by_rd : (m : Latch Executed) (answer : Latch Completed) (r : Register) → from_rd (rd_of m) (arrived answer) r ≡ from_m m answer r
+m_by_rd : (m : Latch Executed) (answer : Latch Completed) (r : Register) → from_rd (rd_of m) (late_value answer) r ≡ from_m m answer r
 m_by_rd Empty answer r = refl
 m_by_rd (Faulting stop) answer r = refl
 m_by_rd (Full e) answer r = refl

@@ -4,7 +4,7 @@ use Rattle.memory.specs.Meaning.{Meaning}
 use Rattle.rv32i.specs.declared.registers.Registers.{Registers}
 use Rattle.clocking.specs.Clock.{Cycled}
 use Rattle.clocking.specs.Laws.{ClockLaws}
-use Rattle.clocking.specs.Ports.{Table}
+use Rattle.clocking.specs.Ports.{TableOf}
 use Rattle.clocking.specs.Execute.{x_result}
 use Rattle.clocking.specs.Decode.{DecodeOut, decode_stage, values_in_flight}
 use Rattle.clocking.specs.declared.latch.Completed.{Completed}
@@ -16,15 +16,18 @@ use Rattle.clocking.specs.declared.stage.Flow.{Flow}
 use Rattle.clocking.specs.declared.state.Core.{Core}
 use Rattle.clocking.specs.declared.state.Event.{Event}
 
--- the decode stage once W and M are filled: m and w are what they held before, and the flows are those of M and X
-abbrev pub decoded : Flow → Flow → Latch Executed → Latch Completed → Registers → Latches → DecodeOut
-decoded by-data by-execute m w g k = decode_stage (values_in_flight (x_result by-data k.m) m k.w w g) k.x k.d by-execute
+-- the decode stage once W and M are filled: m and w are what they held before, and the flows are
+-- those of M and X
+abbrev pub decode_after : Flow → Flow → Latch Executed → Latch Completed → Registers → Latches
+    → DecodeOut
+decode_after by-data by-execute m w g k =
+    decode_stage (values_in_flight (x_result by-data k.m) m k.w w g) k.x k.d by-execute
 
 -- the latches with X filled
 abbrev pub with_x : Latches → Latch Decoded → Latches
 with_x k x = record k { x = x }
 
-module _ {P I D L : Type 0} (table : Table P) (instructions : Meaning I) (words : Meaning D) (heard : L → Event → L → Type 0) (full : L → Bool) where
+module _ {P I D L : Type 0} (table : TableOf P) (instructions : Meaning I) (words : Meaning D) (heard : L → Event → L → Type 0) (full : L → Bool) where
   -- a clock was made: it is the one that the rule has, keeps the laws, and is heard by a listener
   -- that is not full
   pub record Made (m : Core P I D) (before : L) (n : Core P I D) (after : L) : Type 0 where

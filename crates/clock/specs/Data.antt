@@ -1,7 +1,7 @@
 -- The data stage with its memory. Assumes nothing.
 use Rattle.std.specs.Prelude.{◌≡◌, Option}
 use Rattle.memory.specs.Meaning.{Meaning, Reply}
-use Rattle.clocking.specs.Ports.{Asked, sent}
+use Rattle.clocking.specs.Ports.{Asked, bus_request}
 use Rattle.clocking.specs.Data.{data_request, data_stage}
 use Rattle.clocking.specs.declared.latch.Completed.{Completed}
 use Rattle.clocking.specs.declared.latch.Executed.{Executed}
@@ -12,6 +12,6 @@ use Rattle.clocking.specs.declared.stage.Flow.{Flow}
 pub record DataDone {D : Type 0} (words : Meaning D) (m : Latch Executed) (old new : D)
     (w : Latch Completed) (flow : Flow) : Type 0 where
   pub reply : Option Reply
-  pub asked : Asked words old (sent (data_request (words.view.size old) m)) reply new
+  pub asked : Asked words old (bus_request (data_request (words.view.size old) m)) reply new
   pub fills : w ≡ (data_stage m (data_request (words.view.size old) m) reply).w
   pub flows : flow ≡ (data_stage m (data_request (words.view.size old) m) reply).flow

@@ -1,14 +1,14 @@
 //! What a clock counts.
 ghost use Rattle.std.specs.Prelude.{◌≡◌, ◌≤◌};
-ghost use Rattle.clocking.specs.Counting.{occupied, in_flight_count, if_rolled, dropped};
+ghost use Rattle.clocking.specs.Counting.{occupancy, in_flight_count, if_rolled, dropped_count};
 
 use clocking::latch::{Latch, Latches};
 use clocking::stage::Flow;
 
 /// How many instructions a latch holds.
 #[inline(always)]
-fn occupied<T: Copy>(latch: &Latch<T>) -> u32
-    ensures is { result ≡ occupied latch.now }
+fn occupancy<T: Copy>(latch: &Latch<T>) -> u32
+    ensures is { result ≡ occupancy latch.now }
     ensures bound { result ≤ 1 }
 {
     match *latch {
@@ -17,29 +17,29 @@ fn occupied<T: Copy>(latch: &Latch<T>) -> u32
     }
 }
 
-/// How many stand in latches.
-pub fn in_flight(latches: &Latches) -> u32
+/// How many instructions are in flight.
+pub fn in_flight_count(latches: &Latches) -> u32
     ensures { result ≡ in_flight_count latches.now }
 {
-    occupied(&latches.d) + occupied(&latches.x) + occupied(&latches.m) + occupied(&latches.w)
+    occupancy(&latches.d) + occupancy(&latches.x) + occupancy(&latches.m) + occupancy(&latches.w)
 }
 
-/// What a rollback removes of a latch.
+/// How many instructions of a latch a rollback drops.
 #[inline(always)]
 fn if_rolled<T: Copy>(flow: Flow, latch: &Latch<T>) -> u32
-    ensures is { result ≡ if_rolled flow (occupied latch.now) }
+    ensures is { result ≡ if_rolled flow (occupancy latch.now) }
     ensures bound { result ≤ 1 }
 {
     match flow {
-        Flow::RollsBack => occupied(latch),
-        Flow::Moves | Flow::Stays => 0,
+        Flow::RollsBack => occupancy(latch),
+        Flow::Moves | Flow::Stalls => 0,
     }
 }
 
-/// How many are removed: a rollback from data removes X, and any rollback D.
+/// How many instructions are dropped: a rollback from data drops X, and any rollback D.
 #[inline(always)]
-pub fn dropped(latches: &Latches, data: Flow, execute: Flow) -> u32
-    ensures { result ≡ dropped latches.now «data» execute }
+pub fn dropped_count(latches: &Latches, data: Flow, execute: Flow) -> u32
+    ensures { result ≡ dropped_count latches.now «data» execute }
 {
     if_rolled(data, &latches.x) + if_rolled(execute, &latches.d)
 }

@@ -7,9 +7,9 @@ ghost use Rattle.clocking.specs.declared.latch.Executed.{Executed};
 ghost use Rattle.clocking.specs.declared.latch.Latch.{Latch};
 ghost use Rattle.clocking.specs.declared.state.Event.{Event};
 ghost use Rattle.clock.specs.Decode.{rd_of, written_of};
-ghost use Rattle.clock.specs.Cycle.{CycleHeard, decoded, with_x};
+ghost use Rattle.clock.specs.Cycle.{CycleHeard, decode_after, with_x};
 
-use crate::counts::dropped;
+use crate::counts::dropped_count;
 use crate::data::data_stage;
 use crate::decode::{InFlight, Written, decode_stage, rd_of};
 use crate::execute::execute_stage;
@@ -28,7 +28,7 @@ use rv32i::register::Register;
 use rv32i::registers::Registers;
 use sequential::record::Stop;
 
-/// Counts a clock, and what was fetched, retired and removed in it.
+/// Counts a clock, and the instructions that were fetched, retired and dropped in it.
 #[inline(always)]
 fn count(counts: &mut Counts, fetched: bool, retired: bool, gone: u32)
     requires { counts.old.clocks < 4294967295 }
@@ -64,7 +64,7 @@ fn halt<P: Predictor, I: Memory, D: Memory, L: Listener>(
     });
 }
 
-/// The decode stage, with what data and execute made of M and X; `m` and `w` are what was in those latches.
+/// The decode stage, by the flows of M and X; `m` and `w` are of those latches as they were.
 #[inline(always)]
 fn decode(
     completes: Flow,
@@ -77,10 +77,10 @@ fn decode(
     ensures latches { (old_m : Latch Executed) (old_w : Latch Completed)
         → m ≡ rd_of old_m → w ≡ written_of old_w
         → latches.new ≡ with_x latches.old
-        (decoded completes executes old_m old_w registers.now latches.old).x }
+        (decode_after completes executes old_m old_w registers.now latches.old).x }
     ensures flow { (old_m : Latch Executed) (old_w : Latch Completed)
         → m ≡ rd_of old_m → w ≡ written_of old_w
-        → result ≡ (decoded completes executes old_m old_w registers.now latches.old).flow }
+        → result ≡ (decode_after completes executes old_m old_w registers.now latches.old).flow }
 {
     let in_flight = InFlight {
         flow: completes,
@@ -117,7 +117,7 @@ fn advance<P: Predictor, I: Memory, D: Memory, L: Listener>(
 
     let completes = data_stage(&mut core.data, &core.latches.m, &mut core.latches.w);
     let executes = execute_stage(&core.latches.x, completes, &mut core.latches.m);
-    let gone = dropped(&core.latches, completes, executes.flow);
+    let gone = dropped_count(&core.latches, completes, executes.flow);
     let decodes = decode(
         completes,
         executes.flow,

@@ -1,9 +1,9 @@
 //! The data stage: M goes to W, with the data memory's answer.
 ghost use Rattle.std.specs.Prelude.{◌≡◌, Some};
 ghost use Rattle.memory.specs.Meaning.{of_read, of_write};
-ghost use Rattle.clocking.specs.Data.{answered, completes_with};
+ghost use Rattle.clocking.specs.Data.{take_reply, completes_with};
 ghost use Rattle.clocking.specs.declared.latch.Latch.TheVariants.{Empty};
-ghost use Rattle.clocking.specs.declared.stage.Flow.TheVariants.{Stays};
+ghost use Rattle.clocking.specs.declared.stage.Flow.TheVariants.{Stalls};
 ghost use Rattle.clock.specs.Data.{DataDone};
 
 use base::bus::Request;
@@ -29,21 +29,21 @@ fn complete(e: &Executed, value: u32, w: &mut Latch<Completed>) -> Flow
     Flow::Moves
 }
 
-/// M stays while the memory says Wait.
+/// M stalls while the memory says Wait.
 #[inline(always)]
 fn wait(w: &mut Latch<Completed>) -> Flow
     ensures w { w.new ≡ Empty }
-    ensures flow { result ≡ Stays }
+    ensures flow { result ≡ Stalls }
 {
     *w = Latch::Empty;
-    Flow::Stays
+    Flow::Stalls
 }
 
 /// M by the answer to its read.
 #[inline(always)]
 fn after_read(e: &Executed, answer: Result<u32, Unserved>, w: &mut Latch<Completed>) -> Flow
-    ensures w { w.new ≡ (answered e.now (Some (of_read answer))).w }
-    ensures flow { result ≡ (answered e.now (Some (of_read answer))).flow }
+    ensures w { w.new ≡ (take_reply e.now (Some (of_read answer))).w }
+    ensures flow { result ≡ (take_reply e.now (Some (of_read answer))).flow }
 {
     match answer {
         Ok(word) => complete(e, loaded(e.access, e.result, word), w),
@@ -55,8 +55,8 @@ fn after_read(e: &Executed, answer: Result<u32, Unserved>, w: &mut Latch<Complet
 /// M by the answer to its write.
 #[inline(always)]
 fn after_write(e: &Executed, answer: Result<(), Unserved>, w: &mut Latch<Completed>) -> Flow
-    ensures w { w.new ≡ (answered e.now (Some (of_write answer))).w }
-    ensures flow { result ≡ (answered e.now (Some (of_write answer))).flow }
+    ensures w { w.new ≡ (take_reply e.now (Some (of_write answer))).w }
+    ensures flow { result ≡ (take_reply e.now (Some (of_write answer))).flow }
 {
     match answer {
         Err(Unserved::Wait) => wait(w),
@@ -64,10 +64,10 @@ fn after_write(e: &Executed, answer: Result<(), Unserved>, w: &mut Latch<Complet
     }
 }
 
-/// A cause goes to W and rolls back; M waits while the memory does; all else goes to W. The memory is asked what M asks, or
-/// passes the clock idle.
+/// A fault goes to W and rolls back; M stalls while the memory says Wait; all else goes to W. The memory serves the request
+/// of M, or idles.
 #[inline(always)]
-#[tactic(auto, using(crate::proofs::DataAsked::data_idle, crate::proofs::DataAsked::data_refused, crate::proofs::DataAsked::data_free, crate::proofs::DataAsked::data_asked))]
+#[tactic(auto, using(crate::proofs::DataAsked::data_idle, crate::proofs::DataAsked::data_faults, crate::proofs::DataAsked::data_free, crate::proofs::DataAsked::data_asked))]
 pub fn data_stage<D: Memory>(data: &mut D, m: &Latch<Executed>, w: &mut Latch<Completed>) -> Flow
     ensures { DataDone D.Memory.means m.now «data».old «data».new w.new result }
 {

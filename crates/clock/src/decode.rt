@@ -1,9 +1,9 @@
 //! The decode stage: D goes to X, with its operands.
 ghost use Rattle.std.specs.Prelude.{◌≡◌};
-ghost use Rattle.clocking.specs.Decode.{early, arrived, source, with_operands, decode_stage};
+ghost use Rattle.clocking.specs.Decode.{early_value, late_value, source, with_operands, decode_stage};
 ghost use Rattle.clock.specs.Decode.{rd_of, written_of, values};
 
-use crate::execute::held_up;
+use crate::execute::stall;
 use clocking::latch::{Completed, Decoded, Executed, Fetched, Latch};
 use clocking::stage::Flow;
 use rv32i::effect::Access;
@@ -12,10 +12,10 @@ use rv32i::register::Register;
 use rv32i::registers::Registers;
 use sequential::record::Stop;
 
-/// What X gives: a load has no value yet.
+/// The value that X forwards: a load has none yet.
 #[inline(always)]
-fn early(access: Option<Access>, value: u32) -> Option<u32>
-    ensures { result ≡ early access value }
+fn early_value(access: Option<Access>, value: u32) -> Option<u32>
+    ensures { result ≡ early_value access value }
 {
     match access {
         Some(Access::Load(_)) => None,
@@ -23,10 +23,10 @@ fn early(access: Option<Access>, value: u32) -> Option<u32>
     }
 }
 
-/// What M gives: its value, if it went to W.
+/// The value that M forwards, if it went to W.
 #[inline(always)]
-fn arrived(answer: &Latch<Completed>) -> Option<u32>
-    ensures { result ≡ arrived answer.now }
+fn late_value(answer: &Latch<Completed>) -> Option<u32>
+    ensures { result ≡ late_value answer.now }
 {
     match *answer {
         Latch::Full(c) => Some(c.value),
@@ -34,7 +34,7 @@ fn arrived(answer: &Latch<Completed>) -> Option<u32>
     }
 }
 
-/// The register that what is in M writes, if it writes one.
+/// The register that M writes, if it writes one.
 #[inline(always)]
 pub fn rd_of(m: &Latch<Executed>) -> Option<Register>
     ensures { result ≡ rd_of m.now }
@@ -45,7 +45,7 @@ pub fn rd_of(m: &Latch<Executed>) -> Option<Register>
     }
 }
 
-/// What an instruction in W writes: the register, if it writes one, and its value.
+/// The register that W writes, if it writes one, and the value.
 #[derive(Clone, Copy)]
 pub struct Written {
     pub rd: Option<Register>,
@@ -53,7 +53,7 @@ pub struct Written {
 }
 
 impl Written {
-    /// What is in W writes.
+    /// What W writes.
     #[inline(always)]
     pub fn of(w: &Latch<Completed>) -> Written
         ensures { result ≡ written_of w.now }
@@ -68,8 +68,8 @@ impl Written {
     }
 }
 
-/// What is in flight, to an instruction in D: X with this clock's result, which it put into M if M moved; what was in M, with
-/// this clock's answer; what was in W, and the register file that it is written back to.
+/// What decode reads of the older instructions: X with this clock's result, which is in M if M moved; the register of the old
+/// M, with this clock's answer; what the old W wrote, and the register file that it was written back to.
 #[derive(Clone, Copy)]
 pub struct InFlight<'a> {
     pub flow: Flow,
@@ -81,20 +81,20 @@ pub struct InFlight<'a> {
 }
 
 impl InFlight<'_> {
-    /// What a register is. The youngest that writes it gives it: X, then M, then W, else the register file.
+    /// The value of a register, of the youngest that writes it: X, then M, then W, else the register file.
     #[inline(always)]
-    fn forwarded(self, r: Register) -> Option<u32>
+    fn forward(self, r: Register) -> Option<u32>
         ensures { result ≡ values self.entry r }
     {
         if self.flow == Flow::Moves
             && let Latch::Full(e) = self.x
             && e.rd == Some(r)
         {
-            early(e.access, e.result)
+            early_value(e.access, e.result)
         } else if let Some(rd) = self.m
             && rd == r
         {
-            arrived(self.answer)
+            late_value(self.answer)
         } else if let Some(rd) = self.w.rd
             && rd == r
         {
@@ -104,19 +104,19 @@ impl InFlight<'_> {
         }
     }
 
-    /// What there is to read: where no register is read, 0.
+    /// An operand: 0 where no register is read.
     #[inline(always)]
     fn source(self, register: Option<Register>) -> Option<u32>
         ensures { result ≡ source (values self.entry) register }
     {
         match register {
-            Some(r) => self.forwarded(r),
+            Some(r) => self.forward(r),
             None => Some(0),
         }
     }
 }
 
-/// The instruction goes to X with its operands, or stays while one is not there.
+/// The instruction goes to X with its operands, or stalls while one is not there.
 #[inline(always)]
 fn with_operands(
     f: &Fetched,
@@ -130,7 +130,7 @@ fn with_operands(
 {
     let (Some(a), Some(b)) = (a, b) else {
         *x = Latch::Empty;
-        return Flow::Stays;
+        return Flow::Stalls;
     };
     *x = Latch::Full(Decoded {
         address: f.address,
@@ -144,7 +144,7 @@ fn with_operands(
     Flow::Moves
 }
 
-/// D is dropped after a rollback and stays while X stays; else it goes to X, unless an operand is not there.
+/// D is dropped after a rollback and stalls while X stalls; else it goes to X, unless an operand is not there.
 #[inline(always)]
 pub fn decode_stage(
     in_flight: InFlight<'_>,
@@ -160,7 +160,7 @@ pub fn decode_stage(
             *x = Latch::Empty;
             Flow::RollsBack
         }
-        Flow::Stays => held_up(d),
+        Flow::Stalls => stall(d),
         Flow::Moves => match d {
             Latch::Empty => {
                 *x = Latch::Empty;

@@ -1,7 +1,7 @@
 //! The execute stage: X goes to M, computed.
 ghost use Rattle.std.specs.Prelude.{◌≡◌, None};
 ghost use Rattle.rv32i.specs.Causes.{Gives};
-ghost use Rattle.clocking.specs.Execute.{execute, execute_stage, held_up};
+ghost use Rattle.clocking.specs.Execute.{execute, execute_stage, stall};
 
 use clocking::latch::{Decoded, Executed, Latch};
 use clocking::stage::Flow;
@@ -46,18 +46,18 @@ pub fn execute(d: &Decoded) -> Result<Executed, Cause>
     })
 }
 
-/// What becomes of a latch before which nothing moves: it stays, unless it is empty.
+/// A latch before which nothing moves stalls, unless it is empty.
 #[inline(always)]
-pub(crate) fn held_up<T: Copy>(latch: &Latch<T>) -> Flow
-    ensures { result ≡ held_up latch.now }
+pub(crate) fn stall<T: Copy>(latch: &Latch<T>) -> Flow
+    ensures { result ≡ stall latch.now }
 {
     match *latch {
         Latch::Empty => Flow::Moves,
-        Latch::Faulting(_) | Latch::Full(_) => Flow::Stays,
+        Latch::Faulting(_) | Latch::Full(_) => Flow::Stalls,
     }
 }
 
-/// X is dropped after a rollback and stays while M stays; else it goes to M, and rolls back what was fetched after it where
+/// X is dropped after a rollback and stalls while M stalls; else it goes to M, and rolls back what was fetched after it where
 /// its true next address is not the guessed one.
 #[inline(always)]
 pub fn execute_stage(x: &Latch<Decoded>, flow: Flow, m: &mut Latch<Executed>) -> Executing
@@ -70,7 +70,7 @@ pub fn execute_stage(x: &Latch<Decoded>, flow: Flow, m: &mut Latch<Executed>) ->
             *m = Latch::Empty;
             Flow::RollsBack.into()
         }
-        Flow::Stays => held_up(x).into(),
+        Flow::Stalls => stall(x).into(),
         Flow::Moves => match x {
             Latch::Empty => {
                 *m = Latch::Empty;

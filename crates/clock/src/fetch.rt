@@ -4,7 +4,7 @@ ghost use Rattle.memory.specs.Meaning.{of_read};
 ghost use Rattle.rv32i.specs.Causes.{Gives};
 ghost use Rattle.clocking.specs.Counting.{is_wait};
 ghost use Rattle.clocking.specs.Ports.{arrival};
-ghost use Rattle.clocking.specs.Fetch.{placed};
+ghost use Rattle.clocking.specs.Fetch.{fill_d};
 ghost use Rattle.clock.specs.Fetch.{fetchable, FetchDone};
 
 use crate::prediction::guess;
@@ -31,7 +31,7 @@ impl Fetching {
     };
 }
 
-/// Whether a word can be fetched at F, or the cause that F has, in an instruction memory of that size.
+/// Whether a word can be fetched at F, or the cause, in an instruction memory of that size.
 #[inline(always)]
 fn fetchable(size: u32, f: u32) -> Result<(), Cause>
     ensures { Gives (fetchable size f) result }
@@ -45,18 +45,18 @@ fn fetchable(size: u32, f: u32) -> Result<(), Cause>
     }
 }
 
-/// What the memory answered goes into D with what it issues, and F on to its guess.
+/// The word that the memory answers goes into D with the instruction that it issues, and F on to its guess.
 #[inline(always)]
-fn place<P: Predictor>(
+fn fill_d<P: Predictor>(
     answer: Result<u32, Unserved>,
     predictor: &P,
     memo: &mut Memo,
     f: &mut u32,
     d: &mut Latch<Fetched>,
 ) -> Fetching
-    ensures f { f.new ≡ (placed f.old
+    ensures f { f.new ≡ (fill_d f.old
         (arrival P.Predictor.table predictor.now f.old (Some (of_read answer)))).f }
-    ensures d { d.new ≡ (placed f.old
+    ensures d { d.new ≡ (fill_d f.old
         (arrival P.Predictor.table predictor.now f.old (Some (of_read answer)))).d }
     ensures fetched { result.fetched
         ≡ is_some (arrival P.Predictor.table predictor.now f.old (Some (of_read answer))) }
@@ -89,10 +89,10 @@ fn place<P: Predictor>(
     }
 }
 
-/// After a rollback D is empty, and F is where the redirect says; while D stays, so does F; else what arrives goes into D,
-/// and F on to its guess. The memory is asked for the word at F, or passes the clock idle.
+/// After a rollback D is empty, and F is where the redirect says; while D stalls, F stays; else what arrives goes into D, and
+/// F on to its guess. The memory reads the word at F, or idles.
 #[inline(always)]
-#[tactic(auto, using(crate::proofs::FetchAsked::fetch_passes, crate::proofs::FetchAsked::fetch_refused, crate::proofs::FetchAsked::fetch_asked))]
+#[tactic(auto, using(crate::proofs::FetchAsked::fetch_passes, crate::proofs::FetchAsked::fetch_faults, crate::proofs::FetchAsked::fetch_asked))]
 pub fn fetch_stage<P: Predictor, I: Memory>(
     flow: Flow,
     redirect: Option<u32>,
@@ -114,7 +114,7 @@ pub fn fetch_stage<P: Predictor, I: Memory>(
             }
             Fetching::NONE
         }
-        Flow::Stays => {
+        Flow::Stalls => {
             instructions.idle();
             Fetching::NONE
         }
@@ -128,7 +128,7 @@ pub fn fetch_stage<P: Predictor, I: Memory>(
                     waits: false,
                 }
             }
-            Ok(()) => place(instructions.read(*f), predictor, memo, f, d),
+            Ok(()) => fill_d(instructions.read(*f), predictor, memo, f, d),
         },
     }
 }

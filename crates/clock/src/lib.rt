@@ -1,4 +1,4 @@
-//! One clock: what each stage makes of what stands before it, and the stages put together.
+//! One clock: a file for each stage, and the clock put together.
 #![tactic(auto)]
 
 pub mod counts;

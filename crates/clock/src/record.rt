@@ -2,7 +2,7 @@
 ghost use Rattle.std.specs.Prelude.{◌≡◌, false, ◌&&◌};
 ghost use Rattle.clocking.specs.Clock.{clock_record};
 ghost use Rattle.clock.specs.Record.{AddressOf};
-ghost use Rattle.clocking.specs.Counting.{stays, moves, rolls_back};
+ghost use Rattle.clocking.specs.Counting.{stalls, moves, rolls_back};
 
 use clocking::latch::{Latch, Latches};
 use clocking::stage::Flow;
@@ -46,16 +46,16 @@ pub const STOP: Notes = Notes {
 pub fn notes(data: Flow, execute: Flow, decode: Flow, fetch_wait: bool) -> Notes
     ensures { result ≡ record {
       fetch_wait = fetch_wait;
-      hazard = moves execute && stays decode;
-      data_wait = stays «data»;
+      hazard = moves execute && stalls decode;
+      data_wait = stalls «data»;
       rollback = rolls_back decode;
       stop = false;
     } }
 {
     Notes {
         fetch_wait,
-        hazard: execute == Flow::Moves && decode == Flow::Stays,
-        data_wait: data == Flow::Stays,
+        hazard: execute == Flow::Moves && decode == Flow::Stalls,
+        data_wait: data == Flow::Stalls,
         rollback: decode == Flow::RollsBack,
         stop: false,
     }

@@ -1,6 +1,6 @@
 //! Write-back: W stops the machine or retires.
 ghost use Rattle.std.specs.Prelude.{◌≡◌};
-ghost use Rattle.clocking.specs.WriteBack.{stop_of, retirement_of, outcome_of, written_back};
+ghost use Rattle.clocking.specs.WriteBack.{stop_of, retirement_of, outcome_of, write_back};
 
 use base::branch::Outcome;
 use clocking::latch::{Completed, Latch};
@@ -46,7 +46,7 @@ pub fn outcome_of(w: &Latch<Completed>) -> Option<Outcome>
 /// Writes what retires to the register file.
 #[inline(always)]
 pub fn write_back(registers: &mut Registers, w: &Latch<Completed>)
-    ensures { registers.new ≡ written_back registers.old w.now }
+    ensures { registers.new ≡ write_back registers.old w.now }
 {
     if let Latch::Full(c) = *w {
         registers.write(c.rd, c.value);

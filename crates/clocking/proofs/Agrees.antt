@@ -2,17 +2,16 @@
 use Rattle.std.proofs.Common.{◌≡◌, ℕ, ◌+◌, ◌-◌, ◌<◌, ◌≤◌, Bool, true, false, cond, List, [], ◌∷◌, ◌++◌, length, is_some, Some, None, Ok, Option, sym, refl, ap, ◌∙◌, subst, append-nil, arith}
 use Rattle.std.proofs.Math.Bool.{or-false}
 use mathlib.Core.Path.{fun_ext}
-use Rattle.memory.specs.Meaning.{Meaning, Lawful}
-use Rattle.memory.specs.Meaning.{Reply}
+use Rattle.memory.specs.Meaning.{Meaning, Lawful, Reply}
 use Rattle.rv32i.specs.declared.registers.Registers.{Registers}
 use Rattle.sequential.specs.Runs.{Steps, none}
 use Rattle.sequential.specs.Sequential.{State, World}
 use Rattle.sequential.specs.declared.record.Stop.{Stop}
 use Rattle.clocking.specs.Agreement.{retirements, productive, world_of, state_of, StopsSo, BytesSo, Accounted, Agreement}
 use Rattle.clocking.specs.Clock.{completes, executes, decodes, plans, latches_after, Moved, Halted, Worked, Cycled}
-use Rattle.clocking.specs.WriteBack.{stop_of, retirement_of, outcome_of, written_back}
-use Rattle.clocking.specs.Counting.{in_flight_count, occupied, has_fetched, dropped, Counted}
-use Rattle.clocking.specs.Ports.{Table, Taught, arrival, sent}
+use Rattle.clocking.specs.WriteBack.{stop_of, retirement_of, outcome_of, write_back}
+use Rattle.clocking.specs.Counting.{in_flight_count, occupancy, has_fetched, dropped_count, Counted}
+use Rattle.clocking.specs.Ports.{TableOf, Taught, arrival, bus_request}
 use Rattle.clocking.specs.Data.{data_request}
 use Rattle.clocking.specs.declared.state.Core.{Core}
 use Rattle.clocking.specs.declared.state.Event.{Event}
@@ -27,7 +26,7 @@ use Rattle.clocking.proofs.Countdown.{Memories, Waits, count, Lulled, Clock, Dow
 use Rattle.clocking.proofs.Fetch.{arrives_so, text_kept}
 use Rattle.clocking.proofs.Histories.{retirements_more, length_more, retired_more, taught_more}
 use Rattle.clocking.proofs.Keeps.{clock_keeps}
-use Rattle.clocking.proofs.WriteBack.{Retires, stepped, bytes_from, flows_if, faulting_if, retires_count}
+use Rattle.clocking.proofs.WriteBack.{Retires, steps_on, bytes_from, flows_if, faulting_if, retires_count}
 use Rattle.clocking.proofs.Link.{link, Worn}
 use Rattle.clocking.proofs.Pace.{left, Paced, paced_more, left_more, soon, soon_after, retires_productive}
 use Rattle.clocking.proofs.Partial.{step_stops}
@@ -39,7 +38,7 @@ budget bound before after l Empty b e d o k = (λ z. omega arith, rw e (omega ar
 budget bound before after l (Faulting stop) b e d o k = absurd d
 budget bound before after l (Full c) b e d o k = (λ z. cc, rw e d)
 
-module _ {P I D : Type 0} (table : Table P) (instructions : Meaning I) (words : Meaning D) (il : Lawful instructions) (dl : Lawful words) (first : Core P I D) where
+module _ {P I D : Type 0} (table : TableOf P) (instructions : Meaning I) (words : Meaning D) (il : Lawful instructions) (dl : Lawful words) (first : Core P I D) where
   abbrev world : World
   world = world_of instructions words first
 
@@ -101,27 +100,27 @@ module _ {P I D : Type 0} (table : Table P) (instructions : Meaning I) (words : 
     reply : Option Reply
     answer : Option Reply
     taught : Taught table m.predictor (outcome_of (retirement_of m.latches.w)) n.predictor
-    data_served : Bytes size (sent (data_request size m.latches.m)) reply (words.view.byte m.«data») (words.view.byte n.«data»)
-    data_worn : Worn reply (sent (data_request size m.latches.m)) (words.view.waits m.«data») (words.view.waits n.«data»)
+    data_served : Bytes size (bus_request (data_request size m.latches.m)) reply (words.view.byte m.«data») (words.view.byte n.«data»)
+    data_worn : Worn reply (bus_request (data_request size m.latches.m)) (words.view.waits m.«data») (words.view.waits n.«data»)
     data_size : words.view.size n.«data» ≡ size
     data_longest : words.view.longest n.«data» ≡ words.view.longest m.«data»
-    text_served : Bytes text (sent (plans size text g m.latches reply)) answer (instructions.view.byte m.instructions) (instructions.view.byte n.instructions)
-    text_worn : Worn answer (sent (plans size text g m.latches reply)) (instructions.view.waits m.instructions) (instructions.view.waits n.instructions)
+    text_served : Bytes text (bus_request (plans size text g m.latches reply)) answer (instructions.view.byte m.instructions) (instructions.view.byte n.instructions)
+    text_worn : Worn answer (bus_request (plans size text g m.latches reply)) (instructions.view.waits m.instructions) (instructions.view.waits n.instructions)
     text_size : instructions.view.size n.instructions ≡ text
     text_longest : instructions.view.longest n.instructions ≡ instructions.view.longest m.instructions
     registers : n.registers ≡ g
     latches : n.latches ≡ latches_after size text g m.latches reply (arrival table n.predictor m.latches.f answer)
     runs_on : n.stopped ≡ None
     counted : Counted m.counts (has_fetched (plans size text g m.latches reply) (arrival table n.predictor m.latches.f answer)) (is_some (retirement_of m.latches.w))
-        (dropped m.latches (completes size m.latches reply).flow (executes size m.latches reply).flow) n.counts
+        (dropped_count m.latches (completes size m.latches reply).flow (executes size m.latches reply).flow) n.counts
     retirement : e.retirement ≡ retirement_of m.latches.w
     not_stop : e.clock.notes.stop ≡ false
 
   goes : (m : Core P I D) (e : Event) (n : Core P I D) → Moved table instructions words m e n
       → Goes (words.view.size m.«data») (instructions.view.size m.instructions) n.registers m e n
   goes m e n h =
-      let a = link words dl (sent (data_request (words.view.size m.«data») m.latches.m)) h.reply m.«data» n.«data» h.data_asked in
-      let b = link instructions il (sent (plans (words.view.size m.«data») (instructions.view.size m.instructions) n.registers m.latches h.reply)) h.answer m.instructions n.instructions h.text_asked in
+      let a = link words dl (bus_request (data_request (words.view.size m.«data») m.latches.m)) h.reply m.«data» n.«data» h.data_asked in
+      let b = link instructions il (bus_request (plans (words.view.size m.«data») (instructions.view.size m.instructions) n.registers m.latches h.reply)) h.answer m.instructions n.instructions h.text_asked in
       record {
         reply = h.reply;
         answer = h.answer;
@@ -143,16 +142,16 @@ module _ {P I D : Type 0} (table : Table P) (instructions : Meaning I) (words : 
       }
 
   known : (h : List Event) (m : Core P I D) (e : Event) (n : Core P I D) → Kept h m → Moved table instructions words m e n
-      → Goes world.data_size world.text_size (written_back m.registers m.latches.w) m e n
+      → Goes world.data_size world.text_size (write_back m.registers m.latches.w) m e n
   known h m e n k w =
-      subst (λ (z : ℕ). Goes z world.text_size (written_back m.registers m.latches.w) m e n) k.data_size
-      (subst (λ (z : ℕ). Goes (words.view.size m.«data») z (written_back m.registers m.latches.w) m e n) k.text_size
+      subst (λ (z : ℕ). Goes z world.text_size (write_back m.registers m.latches.w) m e n) k.data_size
+      (subst (λ (z : ℕ). Goes (words.view.size m.«data») z (write_back m.registers m.latches.w) m e n) k.text_size
       (subst (λ (z : Registers). Goes (words.view.size m.«data») (instructions.view.size m.instructions) z m e n) w.registers (goes m e n w)))
 
   module _ (h : List Event) (m : Core P I D) (e : Event) (n : Core P I D) (k : Kept h m) (l : Live h k.reached m) (flows : Flows m.latches.w)
-      (w : Goes world.data_size world.text_size (written_back m.registers m.latches.w) m e n) where
+      (w : Goes world.data_size world.text_size (write_back m.registers m.latches.w) m e n) where
     abbrev g : Registers
-    g = written_back m.registers m.latches.w
+    g = write_back m.registers m.latches.w
 
     abbrev arrives : Option Fetched
     arrives = arrival table n.predictor m.latches.f w.answer
@@ -164,7 +163,7 @@ module _ {P I D : Type 0} (table : Table P) (instructions : Meaning I) (words : 
     onward =
         clock_keeps world k.reached (words.view.byte m.«data») (words.view.byte n.«data») (instructions.view.byte n.instructions) m.registers m.latches w.reply w.answer
         arrives l.chain flows w.data_served
-        (subst (λ (z : ℕ → ℕ). Bytes world.text_size (sent (plans world.data_size world.text_size g m.latches w.reply)) w.answer z (instructions.view.byte n.instructions)) k.text w.text_served)
+        (subst (λ (z : ℕ → ℕ). Bytes world.text_size (bus_request (plans world.data_size world.text_size g m.latches w.reply)) w.answer z (instructions.view.byte n.instructions)) k.text w.text_served)
         (arrives_so table n.predictor m.latches.f w.answer)
 
     abbrev clock : Clock table fixed
@@ -229,7 +228,7 @@ module _ {P I D : Type 0} (table : Table P) (instructions : Meaning I) (words : 
     kept_at : (t : State) → Retires world k.reached m.latches.w t → Live (h ++ e ∷ []) t n → m.stopped ≡ None → m.counts.clocks < 4294967295 → Kept (h ++ e ∷ []) n
     kept_at t r live runs spent = record {
       reached = t;
-      steps = rw (retirements_more h e, w.retirement) (stepped world start k.reached t m.latches.w (retirements h) k.steps r);
+      steps = rw (retirements_more h e, w.retirement) (steps_on world start k.reached t m.latches.w (retirements h) k.steps r);
       registers = live.chain.registers;
       stops = rw w.runs_on tt;
       bytes = bytes_from world t (words.view.byte n.«data») n.latches.w live.chain.w live.chain.memory;
@@ -261,7 +260,7 @@ module _ {P I D : Type 0} (table : Table P) (instructions : Meaning I) (words : 
       let j = dl.idle _ _ w.data_idle in
       let none : e.retirement ≡ None = ap (λ (e : Event). e.retirement) w.event in
       let stops : e.clock.notes.stop ≡ true = ap (λ (e : Event). e.clock.notes.stop) w.event in
-      let count1 : in_flight_count m.latches ≡ occupied m.latches.d + occupied m.latches.x + occupied m.latches.m + 1 = ap (λ z. occupied m.latches.d + occupied m.latches.x + occupied m.latches.m + occupied z) fault in
+      let count1 : in_flight_count m.latches ≡ occupancy m.latches.d + occupancy m.latches.x + occupancy m.latches.m + 1 = ap (λ z. occupancy m.latches.d + occupancy m.latches.x + occupancy m.latches.m + occupancy z) fault in
       let before : m.counts.fetched ≡ m.counts.retired + m.counts.dropped + in_flight_count m.latches + 0 = rw runs at a.balanced in
       let d = m.counts.ok.0 in
       let f1 = w.counted.fetched_count in

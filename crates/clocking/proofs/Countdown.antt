@@ -19,11 +19,11 @@ use Rattle.rv32i.specs.Effects.{request, loaded, first_source, second_source}
 use Rattle.rv32i.specs.declared.instruction.Instruction.{Instruction}
 use Rattle.rv32i.specs.declared.registers.Registers.{Registers}
 use Rattle.clocking.specs.Clock.{plans, latches_after}
-use Rattle.clocking.specs.Ports.{Table, arrival, sent}
-use Rattle.clocking.specs.Data.{DataOut, data_request, complete, told}
-use Rattle.clocking.specs.Execute.{ExecuteOut, execute, turned, checked, execute_stage, x_result}
+use Rattle.clocking.specs.Ports.{TableOf, arrival, bus_request}
+use Rattle.clocking.specs.Data.{DataOut, data_request, complete, use_memory}
+use Rattle.clocking.specs.Execute.{ExecuteOut, execute, redirect_unless, check_guess, execute_stage, x_result}
 use Rattle.clocking.specs.Decode.{DecodeOut, gives, or_else, value_of, values_in_flight, source, with_operands, decode_word, decode_stage}
-use Rattle.clocking.specs.Fetch.{FetchOut, fetching, fetches_on, fetch_stage}
+use Rattle.clocking.specs.Fetch.{FetchOut, fetch_request, fetches_on, fetch_stage}
 use Rattle.clocking.specs.declared.latch.Latches.{Latches}
 use Rattle.clocking.proofs.Link.{waits_for, Worn}
 use Rattle.clocking.proofs.Chain.{Flows}
@@ -44,11 +44,11 @@ pub record Waits : Type 0 where
 
 -- those left for fetching at f, none where it cannot be read
 abbrev pub fetch_waits : Memories → Waits → ℕ → ℕ
-fetch_waits fixed left f = waits_for left.of_text (sent (fetching fixed.text_size f Moves))
+fetch_waits fixed left f = waits_for left.of_text (bus_request (fetch_request fixed.text_size f Moves))
 
 module _ (fixed : Memories) (left : Waits) where
   abbrev count_by : Latch Completed → Latch Executed → Latch Decoded → Latch Fetched → ℕ → ℕ
-  count_by Empty (Full e) x d f = 2 + waits_for left.of_data (sent (request fixed.data_size e.access e.result e.b))
+  count_by Empty (Full e) x d f = 2 + waits_for left.of_data (bus_request (request fixed.data_size e.access e.result e.b))
   count_by Empty (Faulting stop) x d f = 2
   count_by Empty Empty Empty Empty f = 5 + fixed.data_longest + fetch_waits fixed left f
   count_by Empty Empty Empty d f = 4 + fixed.data_longest
@@ -67,7 +67,7 @@ module _ (fixed : Memories) (left : Waits) where
   Lulled k = LulledBy k.w k.m k.x k.d k.f
 
 -- a clock, by what it makes of the registers and by what the predictor and the memories answer
-pub record Clock {P : Type 0} (table : Table P) (fixed : Memories) : Type 0 where
+pub record Clock {P : Type 0} (table : TableOf P) (fixed : Memories) : Type 0 where
   pub registers : Registers
   pub predictor : P
   pub reply : Option Reply
@@ -119,7 +119,7 @@ Down bound (Full c) before after = after ≤ bound
 
 -- ---- fetching
 
-module _ {P : Type 0} (table : Table P) (fixed : Memories) (clock : Clock table fixed) where
+module _ {P : Type 0} (table : TableOf P) (fixed : Memories) (clock : Clock table fixed) where
   abbrev size : ℕ
   size = fixed.data_size
 
@@ -163,19 +163,19 @@ module _ {P : Type 0} (table : Table P) (fixed : Memories) (clock : Clock table 
   filled_x x d f h = refl
 
   -- an instruction in M goes to W, or waits
-  by_m : (e : Executed) (x x' : Latch Decoded) (d' : Latch Fetched) (f' : ℕ) (o : Result (Option Request) Cause) (r : Option Reply) → Worn r (sent (request size e.access e.result e.b)) clock.before.of_data clock.after.of_data
-      → after (told e o r).w (execute_stage (Full e) x (told e o r).flow).m x' d' f' < 2 + waits (sent (request size e.access e.result e.b))
+  by_m : (e : Executed) (x x' : Latch Decoded) (d' : Latch Fetched) (f' : ℕ) (o : Result (Option Request) Cause) (r : Option Reply) → Worn r (bus_request (request size e.access e.result e.b)) clock.before.of_data clock.after.of_data
+      → after (use_memory e o r).w (execute_stage (Full e) x (use_memory e o r).flow).m x' d' f' < 2 + waits (bus_request (request size e.access e.result e.b))
   by_m e Empty x' d' f' (Ok q) (Some (Err Wait)) h = omega arith
   by_m e x x' d' f' (Ok q) (Some (Err Wait)) h = omega arith
   by_m e x x' d' f' (Ok q) (Some (Ok (Word w))) h = omega arith
   by_m e x x' d' f' o r h = omega arith
 
   -- one in X goes to M
-  by_turn : (e : Executed) (b : Bool) (x' : Latch Decoded) (d' : Latch Fetched) (f' : ℕ) → after Empty (turned e b).m x' d' f' < 3 + most
-  by_turn e true x' d' f' = let l = waits_most (sent (request size e.access e.result e.b)) in omega arith
-  by_turn e false x' d' f' = let l = waits_most (sent (request size e.access e.result e.b)) in omega arith
+  by_turn : (e : Executed) (b : Bool) (x' : Latch Decoded) (d' : Latch Fetched) (f' : ℕ) → after Empty (redirect_unless e b).m x' d' f' < 3 + most
+  by_turn e true x' d' f' = let l = waits_most (bus_request (request size e.access e.result e.b)) in omega arith
+  by_turn e false x' d' f' = let l = waits_most (bus_request (request size e.access e.result e.b)) in omega arith
 
-  by_x : (a g : ℕ) (o : Result Executed Cause) (x' : Latch Decoded) (d' : Latch Fetched) (f' : ℕ) → after Empty (checked a g o).m x' d' f' < 3 + most
+  by_x : (a g : ℕ) (o : Result Executed Cause) (x' : Latch Decoded) (d' : Latch Fetched) (f' : ℕ) → after Empty (check_guess a g o).m x' d' f' < 3 + most
   by_x a g (Err c) x' d' f' = omega arith
   by_x a g (Ok e) x' d' f' = by_turn e (eqb e.next g) x' d' f'
 
@@ -202,12 +202,12 @@ module _ {P : Type 0} (table : Table P) (fixed : Memories) (clock : Clock table 
     asked (Some (Err Outside)) e i h = absurd (both_ways _ h.0.0 (and_from _ _ e i))
     asked a e i h = absurd h.0
 
-    arrived_by : (a : Option Reply) (b d : Bool) → eqb (f % 4) 0 ≡ b → ltb f text ≡ d → Serves (sent (asked_if f b d)) a
+    arrived_by : (a : Option Reply) (b d : Bool) → eqb (f % 4) 0 ≡ b → ltb f text ≡ d → Serves (bus_request (asked_if f b d)) a
         → Arrived (fetches_on f (asked_if f b d) (arrival table clock.predictor f a))
     arrived_by a true true e i h = asked a e i h
     arrived_by a b d e i h = inl tt
 
-    arrived : (a : Option Reply) → Serves (sent (fetching text f Moves)) a → Arrived (fetches_on f (fetching text f Moves) (arrival table clock.predictor f a))
+    arrived : (a : Option Reply) → Serves (bus_request (fetch_request text f Moves)) a → Arrived (fetches_on f (fetch_request text f Moves) (arrival table clock.predictor f a))
     arrived a h = arrived_by a (eqb (f % 4) 0) (ltb f text) refl refl h
 
     falls_by : (o : FetchOut) → Arrived o → after Empty Empty Empty o.d o.f < 5 + most + fetching_waits f
@@ -225,7 +225,7 @@ module _ {P : Type 0} (table : Table P) (fixed : Memories) (clock : Clock table 
         lulled_full : (d : Latch Fetched) (f : ℕ) (c : Completed) → Filled d → LulledAfter (Full c) Empty Empty d f
         lulled_full Empty f c h = absurd h
         lulled_full d f c h = tt
-    lulled_by o c (inr h) = rw (h.0, h.1) (let k = h.2 in let m = waits_few (sent (fetching text f Moves)) in omega arith)
+    lulled_by o c (inr h) = rw (h.0, h.1) (let k = h.2 in let m = waits_few (bus_request (fetch_request text f Moves)) in omega arith)
 
   -- ---- one clock
 
@@ -237,10 +237,10 @@ module _ {P : Type 0} (table : Table P) (fixed : Memories) (clock : Clock table 
   ends_at k = count fixed clock.after (next k)
 
   abbrev pub DataAsked : Latches → Type 0
-  DataAsked k = Worn clock.reply (sent (data_request size k.m)) clock.before.of_data clock.after.of_data
+  DataAsked k = Worn clock.reply (bus_request (data_request size k.m)) clock.before.of_data clock.after.of_data
 
   abbrev pub TextAsked : Latches → Type 0
-  TextAsked k = Serves (sent (plans size text clock.registers k clock.reply)) clock.answer
+  TextAsked k = Serves (bus_request (plans size text clock.registers k clock.reply)) clock.answer
 
   abbrev latches : ℕ → Latch Fetched → Latch Decoded → Latch Executed → Latch Completed → Latches
   latches f d x m w = record { f = f; d = d; x = x; m = m; w = w }
@@ -262,9 +262,9 @@ module _ {P : Type 0} (table : Table P) (fixed : Memories) (clock : Clock table 
   bounds : (f : ℕ) (d : Latch Fetched) (x : Latch Decoded) (m : Latch Executed) (c : Completed) → DataAsked (latches f d x m (Full c))
       → TextAsked (latches f d x m (Full c)) → Lulled fixed clock.before (latches f d x m (Full c)) → ends_at (latches f d x m (Full c)) ≤ 3 + most + least
   bounds f d x (Full e) c h w l =
-      let k : ends_at (latches f d x (Full e) (Full c)) < 2 + waits (sent (request size e.access e.result e.b)) =
+      let k : ends_at (latches f d x (Full e) (Full c)) < 2 + waits (bus_request (request size e.access e.result e.b)) =
       by_m e x _ _ _ (request size e.access e.result e.b) clock.reply h in
-      let j = waits_before (sent (request size e.access e.result e.b)) in
+      let j = waits_before (bus_request (request size e.access e.result e.b)) in
       omega arith
   bounds f d (Full y) Empty c h w l =
       let k : ends_at (latches f d (Full y) Empty (Full c)) < 3 + most = by_x y.address y.guess (execute y) _ _ _ in
@@ -295,31 +295,31 @@ module _ {P : Type 0} (table : Table P) (fixed : Memories) (clock : Clock table 
   decodes_by k o = decode_stage (values_in_flight (x_result o.flow (executes_by k o).m) k.m o.w k.w clock.registers) k.x k.d (executes_by k o).flow
 
   abbrev fetches_by : Latches → DataOut → FetchOut
-  fetches_by k o = fetch_stage k.f k.d (decodes_by k o).flow (fetching text k.f (decodes_by k o).flow) (arrival table clock.predictor k.f clock.answer) (executes_by k o).redirect
+  fetches_by k o = fetch_stage k.f k.d (decodes_by k o).flow (fetch_request text k.f (decodes_by k o).flow) (arrival table clock.predictor k.f clock.answer) (executes_by k o).redirect
 
   abbrev Lulls : Latches → DataOut → Type 0
   Lulls k o = LulledAfter o.w (executes_by k o).m (decodes_by k o).x (fetches_by k o).d (fetches_by k o).f
 
   abbrev TextBy : Latches → DataOut → Type 0
-  TextBy k o = Serves (sent (fetching text k.f (decodes_by k o).flow)) clock.answer
+  TextBy k o = Serves (bus_request (fetch_request text k.f (decodes_by k o).flow)) clock.answer
 
   lull_m : (c : Completed) (m : Latch Executed) (x : Latch Decoded) (d : Latch Fetched) (f : ℕ) → Filled m → LulledAfter (Full c) m x d f
   lull_m c Empty x d f h = absurd h
   lull_m c m x d f h = tt
 
-  fills_turn : (e : Executed) (b : Bool) → Filled (turned e b).m
+  fills_turn : (e : Executed) (b : Bool) → Filled (redirect_unless e b).m
   fills_turn e true = tt
   fills_turn e b = tt
 
-  fills_m : (a n : ℕ) (o : Result Executed Cause) → Filled (checked a n o).m
+  fills_m : (a n : ℕ) (o : Result Executed Cause) → Filled (check_guess a n o).m
   fills_m a n (Err c) = tt
   fills_m a n (Ok e) = fills_turn e (eqb e.next n)
 
   -- a hazard keeps D full
   abbrev KeptFull : Completed → ℕ → Fetched → DecodeOut → Type 0
   KeptFull c f y o = LulledAfter (Full c) Empty o.x
-      (fetch_stage f (Full y) o.flow (fetching text f o.flow) (arrival table clock.predictor f clock.answer) None).d
-      (fetch_stage f (Full y) o.flow (fetching text f o.flow) (arrival table clock.predictor f clock.answer) None).f
+      (fetch_stage f (Full y) o.flow (fetch_request text f o.flow) (arrival table clock.predictor f clock.answer) None).d
+      (fetch_stage f (Full y) o.flow (fetch_request text f o.flow) (arrival table clock.predictor f clock.answer) None).f
 
   kept_with : (c : Completed) (f : ℕ) (y : Fetched) (i : Instruction) (a b : Option ℕ) → KeptFull c f y (with_operands y i a b)
   kept_with c f y i (Some a) (Some b) = tt
@@ -332,20 +332,20 @@ module _ {P : Type 0} (table : Table P) (fixed : Memories) (clock : Clock table 
   -- M goes to W
   lull_by : (f : ℕ) (d : Latch Fetched) (x : Latch Decoded) (e : Executed) (w : Latch Completed) (c : Completed)
       → TextBy (latches f d x (Full e) w) (record { w = Full c; flow = Moves }) → Lulls (latches f d x (Full e) w) (record { w = Full c; flow = Moves })
-  lull_by f d (Full y) e w c h = lull_m c (checked y.address y.guess (execute y)).m _ _ _ (fills_m y.address y.guess (execute y))
+  lull_by f d (Full y) e w c h = lull_m c (check_guess y.address y.guess (execute y)).m _ _ _ (fills_m y.address y.guess (execute y))
   lull_by f (Full y) Empty e w c h = kept_word _ c f y y.issued
   lull_by f Empty Empty e w c h = lulled_by f _ c (arrived f clock.answer h)
   lull_by f d x e w c h = tt
 
-  lull_told : (f : ℕ) (d : Latch Fetched) (x : Latch Decoded) (e : Executed) (w : Latch Completed) (o : Result (Option Request) Cause) (r : Option Reply)
-      → TextBy (latches f d x (Full e) w) (told e o r) → Lulls (latches f d x (Full e) w) (told e o r)
-  lull_told f d x e w (Err c) r h = tt
-  lull_told f d x e w (Ok n) (Some (Err Wait)) h = tt
-  lull_told f d x e w (Ok n) (Some (Ok (Word v))) h = lull_by f d x e w (complete e (loaded e.access e.result v)) h
-  lull_told f d x e w (Ok n) r h = lull_by f d x e w (complete e e.result) h
+  lull_memory : (f : ℕ) (d : Latch Fetched) (x : Latch Decoded) (e : Executed) (w : Latch Completed) (o : Result (Option Request) Cause) (r : Option Reply)
+      → TextBy (latches f d x (Full e) w) (use_memory e o r) → Lulls (latches f d x (Full e) w) (use_memory e o r)
+  lull_memory f d x e w (Err c) r h = tt
+  lull_memory f d x e w (Ok n) (Some (Err Wait)) h = tt
+  lull_memory f d x e w (Ok n) (Some (Ok (Word v))) h = lull_by f d x e w (complete e (loaded e.access e.result v)) h
+  lull_memory f d x e w (Ok n) r h = lull_by f d x e w (complete e e.result) h
 
   lulls_by : (f : ℕ) (d : Latch Fetched) (x : Latch Decoded) (m : Latch Executed) (w : Latch Completed) → TextAsked (latches f d x m w) → Lulled fixed clock.after (next (latches f d x m w))
-  lulls_by f d x (Full e) w h = lull_told f d x e w (request size e.access e.result e.b) clock.reply h
+  lulls_by f d x (Full e) w h = lull_memory f d x e w (request size e.access e.result e.b) clock.reply h
   lulls_by f d x m w h = tt
 
   pub lulls : (k : Latches) → TextAsked k → Lulled fixed clock.after (next k)
@@ -364,7 +364,7 @@ least_one fixed left k = least_one_by k.w k.m k.x k.d k.f
 -- of a machine that has just been loaded
 pub at_first : (fixed : Memories) (left : Waits) → ((q : Request) → left.of_text q ≤ fixed.text_longest) → (f : ℕ)
     → count fixed left (record { f = f; d = Empty; x = Empty; m = Empty; w = Empty }) ≤ 5 + fixed.data_longest + fixed.text_longest
-at_first fixed left patient f = let k = waits_few (sent (fetching fixed.text_size f Moves)) in omega arith
+at_first fixed left patient f = let k = waits_few (bus_request (fetch_request fixed.text_size f Moves)) in omega arith
   where
     waits_few : (q : Option Request) → waits_for left.of_text q ≤ fixed.text_longest
     waits_few None = omega arith

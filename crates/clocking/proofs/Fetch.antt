@@ -9,16 +9,16 @@ use Rattle.sequential.specs.Sequential.{State, World, then, fetch}
 use Rattle.clocking.specs.declared.latch.Fetched.{Fetched}
 use Rattle.clocking.specs.declared.latch.Latch.{Latch}
 use Rattle.clocking.specs.declared.stage.Flow.{Flow}
-use Rattle.clocking.specs.declared.stage.Flow.TheVariants.{Moves, Stays, RollsBack}
+use Rattle.clocking.specs.declared.stage.Flow.TheVariants.{Moves, Stalls, RollsBack}
 use Rattle.std.proofs.lemmas.Bool.{and_parts}
 use Rattle.rv32i_words.specs.Issues.{issued}
 use Rattle.rv32i.specs.declared.cause.Cause.{Cause}
 use Rattle.rv32i.specs.declared.cause.Cause.TheVariants.{JumpMisaligned, FetchOutside}
-use Rattle.clocking.specs.Ports.{sent, Table, arrival}
-use Rattle.clocking.specs.Fetch.{FetchOut, fetching, redirected, fetches_on, fetch_stage}
+use Rattle.clocking.specs.Ports.{bus_request, TableOf, arrival}
+use Rattle.clocking.specs.Fetch.{FetchOut, fetch_request, resume_at, fetches_on, fetch_stage}
 use Rattle.clocking.proofs.Chain.{Reach, HoldsD, behindD, Leads, guessed}
 use Rattle.clocking.proofs.Decode.{Rests}
-use Rattle.clocking.proofs.Execute.{Turned}
+use Rattle.clocking.proofs.Execute.{Redirects}
 use Rattle.clocking.proofs.Partial.{fetched_at, after_at}
 use Rattle.clocking.proofs.Served.{Bytes}
 use Rattle.memory.specs.declared.Unserved.TheVariants.{Outside, Wait}
@@ -32,10 +32,10 @@ guess_leads : (g : ℕ) (r : Reach) → Leads g (then r (guessed g))
 guess_leads g (Err c) = tt
 guess_leads g (Ok t) = guess_leads_by g t (eqb t.address g) refl
 
-turned_leads : (u : Option ℕ) (f : ℕ) (q : Reach) → Turned u q → Leads (redirected f u) q
-turned_leads None f (Err c) h = tt
-turned_leads None f (Ok s) h = absurd h
-turned_leads (Some n) f q h = h
+redirect_leads : (u : Option ℕ) (f : ℕ) (q : Reach) → Redirects u q → Leads (resume_at f u) q
+redirect_leads None f (Err c) h = tt
+redirect_leads None f (Ok s) h = absurd h
+redirect_leads (Some n) f q h = h
 
 -- what is asked for f, by whether a word may stand there and whether it is within the memory
 abbrev pub asked_if : ℕ → Bool → Bool → Result (Option Request) Cause
@@ -79,7 +79,7 @@ module _ (world : World) where
   by_ask (Ok s) f t (Some x) n h a l = record { d = arrives_at s f x t n h a l; f = guess_leads x.guess (after_at world s) }
 
   by_size : (q : Reach) (f : ℕ) (t : Option Reply) (x : Option Fetched) (n : ℕ → ℕ) (b d : Bool) → eqb (f % 4) 0 ≡ b → ltb f world.text_size ≡ d
-      → Bytes world.text_size (sent (asked_if f b d)) t world.text n → Arrives f t x → Leads f q
+      → Bytes world.text_size (bus_request (asked_if f b d)) t world.text n → Arrives f t x → Leads f q
       → FetchKept q (fetches_on f (asked_if f b d) x)
   by_size q f t x n true true e i h a l = by_ask q f t x n h a l
   by_size (Ok s) f t x n true false e i h a l = record { d = (l, outside s (rw l at e) (rw l at i)); f = tt }
@@ -87,15 +87,15 @@ module _ (world : World) where
   by_size (Err c) f t x n b d e i h a l = record { d = tt; f = tt }
 
   pub fetch_kept : (flow : Flow) (f : ℕ) (d : Latch Fetched) (t : Option Reply) (x : Option Fetched) (u : Option ℕ) (n : ℕ → ℕ) (r q : Reach)
-      → Bytes world.text_size (sent (fetching world.text_size f flow)) t world.text n → Arrives f t x → HoldsD world r d → Leads f (behindD world r d) → Rests world flow u r d q
-      → FetchKept q (fetch_stage f d flow (fetching world.text_size f flow) x u)
+      → Bytes world.text_size (bus_request (fetch_request world.text_size f flow)) t world.text n → Arrives f t x → HoldsD world r d → Leads f (behindD world r d) → Rests world flow u r d q
+      → FetchKept q (fetch_stage f d flow (fetch_request world.text_size f flow) x u)
   fetch_kept Moves f d t x u n r q h a hd hf o = by_size q f t x n (eqb (f % 4) 0) (ltb f world.text_size) refl refl h a (rw o hf)
-  fetch_kept Stays f d t x u n r q h a hd hf o = rw o (record { d = hd; f = hf })
-  fetch_kept RollsBack f d t x u n r q h a hd hf o = record { d = tt; f = turned_leads u f q o }
+  fetch_kept Stalls f d t x u n r q h a hd hf o = rw o (record { d = hd; f = hf })
+  fetch_kept RollsBack f d t x u n r q h a hd hf o = record { d = tt; f = redirect_leads u f q o }
 
 -- ---- what fetching asks leaves the words as they are
 
-pub arrives_so : {P : Type 0} (table : Table P) (p : P) (f : ℕ) (a : Option Reply) → Arrives f a (arrival table p f a)
+pub arrives_so : {P : Type 0} (table : TableOf P) (p : P) (f : ℕ) (a : Option Reply) → Arrives f a (arrival table p f a)
 arrives_so table p f (Some (Ok (Word w))) = (refl, refl, refl)
 arrives_so table p f a = tt
 
@@ -106,10 +106,10 @@ read_same size f (Some (Err Wait)) u v h = h
 read_same size f (Some (Err Outside)) u v h = h.1
 read_same size f a u v h = absurd h
 
-asked_kept : (size f : ℕ) (b d : Bool) (a : Option Reply) (u v : ℕ → ℕ) → Bytes size (sent (asked_if f b d)) a u v → v ≡ u
+asked_kept : (size f : ℕ) (b d : Bool) (a : Option Reply) (u v : ℕ → ℕ) → Bytes size (bus_request (asked_if f b d)) a u v → v ≡ u
 asked_kept size f true true a u v h = read_same size f a u v h
 asked_kept size f b d a u v h = idle_same size a u v h
 
-pub text_kept : (size f : ℕ) (flow : Flow) (a : Option Reply) (u v : ℕ → ℕ) → Bytes size (sent (fetching size f flow)) a u v → v ≡ u
+pub text_kept : (size f : ℕ) (flow : Flow) (a : Option Reply) (u v : ℕ → ℕ) → Bytes size (bus_request (fetch_request size f flow)) a u v → v ≡ u
 text_kept size f Moves a u v h = asked_kept size f (eqb (f % 4) 0) (ltb f size) a u v h
 text_kept size f flow a u v h = idle_same size a u v h

@@ -8,8 +8,8 @@ use Rattle.clocking.specs.declared.stage.Flow.{Flow}
 use Rattle.clocking.specs.declared.stage.Flow.TheVariants.{Moves}
 use Rattle.rv32i.specs.declared.registers.Registers.{Registers}
 use Rattle.clocking.specs.Clock.{completes, executes, reads, decodes, plans, fetches, latches_after}
-use Rattle.clocking.specs.WriteBack.{written_back}
-use Rattle.clocking.specs.Ports.{sent}
+use Rattle.clocking.specs.WriteBack.{write_back}
+use Rattle.clocking.specs.Ports.{bus_request}
 use Rattle.clocking.specs.Data.{data_request}
 use Rattle.clocking.specs.Decode.{from_m, from_w, or_else, value_of}
 use Rattle.clocking.specs.declared.latch.Latches.{Latches}
@@ -28,8 +28,8 @@ sourced_read flow f r k = tt
 
 module _ (world : World) where
   module _ (t : State) (bytes n text : ℕ → ℕ) (g : Registers) (k : Latches) (reply answer : Option Reply) (arrival : Option Fetched) (c : Rest world t bytes g k)
-      (served : Bytes world.data_size (sent (data_request world.data_size k.m)) reply bytes n)
-      (right : Bytes world.text_size (sent (plans world.data_size world.text_size g k reply)) answer world.text text)
+      (served : Bytes world.data_size (bus_request (data_request world.data_size k.m)) reply bytes n)
+      (right : Bytes world.text_size (bus_request (plans world.data_size world.text_size g k reply)) answer world.text text)
       (arrives : Arrives k.f answer arrival) where
     abbrev size : ℕ
     size = world.data_size
@@ -87,10 +87,10 @@ module _ (world : World) where
     }
 
   pub clock_keeps : (s : State) (bytes n text : ℕ → ℕ) (g : Registers) (k : Latches) (reply answer : Option Reply) (arrival : Option Fetched) → Chain world s bytes g k → Flows k.w
-      → Bytes world.data_size (sent (data_request world.data_size k.m)) reply bytes n
-      → Bytes world.text_size (sent (plans world.data_size world.text_size (written_back g k.w) k reply)) answer world.text text
+      → Bytes world.data_size (bus_request (data_request world.data_size k.m)) reply bytes n
+      → Bytes world.text_size (bus_request (plans world.data_size world.text_size (write_back g k.w) k reply)) answer world.text text
       → Arrives k.f answer arrival
-      → (t : State) × Retires world s k.w t × Chain world t n (written_back g k.w) (latches_after world.data_size world.text_size (written_back g k.w) k reply arrival)
+      → (t : State) × Retires world s k.w t × Chain world t n (write_back g k.w) (latches_after world.data_size world.text_size (write_back g k.w) k reply arrival)
   clock_keeps s bytes n text g k reply answer arrival c w served right a =
       let z = retire world s bytes g k.f k.d k.x k.m k.w c w in
-      (z.0, z.1, kept_on z.0 bytes n text (written_back g k.w) k reply answer arrival z.2 served right a)
+      (z.0, z.1, kept_on z.0 bytes n text (write_back g k.w) k reply answer arrival z.2 served right a)

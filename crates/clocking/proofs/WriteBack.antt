@@ -5,9 +5,9 @@ use Rattle.sequential.specs.Runs.{Steps, more}
 use Rattle.sequential.specs.Sequential.{State, World}
 use Rattle.sequential.specs.declared.record.Retirement.{Retirement}
 use Rattle.sequential.specs.declared.record.Stop.{Stop}
-use Rattle.clocking.specs.Agreement.{listed, BytesSo}
-use Rattle.clocking.specs.WriteBack.{stop_of, retirement_of, written_back}
-use Rattle.clocking.specs.Counting.{occupied, one_if}
+use Rattle.clocking.specs.Agreement.{list_of, BytesSo}
+use Rattle.clocking.specs.WriteBack.{stop_of, retirement_of, write_back}
+use Rattle.clocking.specs.Counting.{occupancy, one_if}
 use Rattle.clocking.specs.declared.latch.Completed.{Completed}
 use Rattle.clocking.specs.declared.latch.Fetched.{Fetched}
 use Rattle.clocking.specs.declared.latch.Latch.{Latch}
@@ -83,7 +83,7 @@ module _ (world : World) where
     gone_full c k (Err z) q w = absurd w
     gone_full c k (Ok t) q w = (t, (sym k.w, q), gone t c k q w)
 
-    pub retire : (w : Latch Completed) → Chain world s bytes g (with_w w) → Flows w → (t : State) × Retires s w t × Rest t bytes (written_back g w) (with_w w)
+    pub retire : (w : Latch Completed) → Chain world s bytes g (with_w w) → Flows w → (t : State) × Retires s w t × Rest t bytes (write_back g w) (with_w w)
     retire Empty k h = (
       s,
       refl,
@@ -103,10 +103,10 @@ module _ (world : World) where
 
 -- ---- what retires is a step of the sequential machine
 
-pub stepped : (world : World) (start s t : State) (w : Latch Completed) (rs : List Retirement) → Steps world start rs s → Retires world s w t → Steps world start (rs ++ listed (retirement_of w)) t
-stepped world start s t Empty rs k r = rw (append-nil, r) k
-stepped world start s t (Faulting stop) rs k r = absurd r
-stepped world start s t (Full c) rs k r = more (record { retirement = retires_as c; after = t }) k (step_completes world s c t r.0 r.1)
+pub steps_on : (world : World) (start s t : State) (w : Latch Completed) (rs : List Retirement) → Steps world start rs s → Retires world s w t → Steps world start (rs ++ list_of (retirement_of w)) t
+steps_on world start s t Empty rs k r = rw (append-nil, r) k
+steps_on world start s t (Faulting stop) rs k r = absurd r
+steps_on world start s t (Full c) rs k r = more (record { retirement = retires_as c; after = t }) k (step_completes world s c t r.0 r.1)
 
 bytes_by : (world : World) (s : State) (c : Completed) (bytes : ℕ → ℕ) (r : Reach) → Ok c ≡ completed_at world s → after_at world s ≡ r → Pairs s (Ok c) r → bytes ≡ bytes_at s r → BytesSo world s (Full c) bytes
 bytes_by world s c bytes (Err z) e i p h = absurd p
@@ -125,6 +125,6 @@ pub faulting_if : (w : Latch Completed) (stop : Stop) → stop_of w ≡ Some sto
 faulting_if (Faulting s) stop e = cc
 faulting_if w stop e = cc
 
-pub retires_count : (w : Latch Completed) → Flows w → one_if (is_some (retirement_of w)) ≡ occupied w
+pub retires_count : (w : Latch Completed) → Flows w → one_if (is_some (retirement_of w)) ≡ occupancy w
 retires_count (Faulting stop) h = absurd h
 retires_count w h = refl

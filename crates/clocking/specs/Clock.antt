@@ -1,19 +1,18 @@
 -- One clock. Assumes nothing.
 use Rattle.std.specs.Prelude.{◌≡◌, ℕ, true, false, ◌&&◌, is_some, Some, None, Option, Result}
 use Rattle.base.specs.declared.bus.Request.{Request}
-use Rattle.memory.specs.Meaning.{Meaning}
-use Rattle.memory.specs.Meaning.{Reply}
+use Rattle.memory.specs.Meaning.{Meaning, Reply}
 use Rattle.rv32i.specs.declared.cause.Cause.{Cause}
 use Rattle.rv32i.specs.declared.register.Register.{Register}
 use Rattle.rv32i.specs.declared.registers.Registers.{Registers}
 use Rattle.sequential.specs.declared.record.Stop.{Stop}
-use Rattle.clocking.specs.Counting.{has_fetched, dropped, Counted, stays, moves, rolls_back, is_wait}
-use Rattle.clocking.specs.Ports.{Table, Asked, Taught, arrival, sent}
-use Rattle.clocking.specs.WriteBack.{stop_of, retirement_of, outcome_of, written_back}
+use Rattle.clocking.specs.Counting.{has_fetched, dropped_count, Counted, stalls, moves, rolls_back, is_wait}
+use Rattle.clocking.specs.Ports.{TableOf, Asked, Taught, arrival, bus_request}
+use Rattle.clocking.specs.WriteBack.{stop_of, retirement_of, outcome_of, write_back}
 use Rattle.clocking.specs.Data.{DataOut, data_request, data_stage}
 use Rattle.clocking.specs.Execute.{ExecuteOut, execute_stage, x_result}
 use Rattle.clocking.specs.Decode.{DecodeOut, values_in_flight, decode_stage}
-use Rattle.clocking.specs.Fetch.{FetchOut, fetching, fetch_stage}
+use Rattle.clocking.specs.Fetch.{FetchOut, fetch_request, fetch_stage}
 use Rattle.clocking.specs.declared.state.Core.{Core}
 use Rattle.clocking.specs.declared.state.ClockRecord.{ClockRecord}
 use Rattle.clocking.specs.declared.state.Event.{Event}
@@ -32,19 +31,23 @@ module _ (size : ℕ) where
   abbrev pub executes : Latches → Option Reply → ExecuteOut
   executes k reply = execute_stage k.m k.x (completes k reply).flow
 
-  -- what a register is, to an instruction in D
+  -- the registers as the instruction in D reads them
   abbrev pub reads : Registers → Latches → Option Reply → Register → Option ℕ
-  reads g k reply = values_in_flight (x_result (completes k reply).flow (executes k reply).m) k.m (completes k reply).w k.w g
+  reads g k reply =
+      values_in_flight
+      (x_result (completes k reply).flow (executes k reply).m) k.m (completes k reply).w k.w g
 
   abbrev pub decodes : Registers → Latches → Option Reply → DecodeOut
   decodes g k reply = decode_stage (reads g k reply) k.x k.d (executes k reply).flow
 
   -- text is the size of the instruction memory
   abbrev pub plans : ℕ → Registers → Latches → Option Reply → Result (Option Request) Cause
-  plans text g k reply = fetching text k.f (decodes g k reply).flow
+  plans text g k reply = fetch_request text k.f (decodes g k reply).flow
 
   abbrev pub fetches : ℕ → Registers → Latches → Option Reply → Option Fetched → FetchOut
-  fetches text g k reply x = fetch_stage k.f k.d (decodes g k reply).flow (plans text g k reply) x (executes k reply).redirect
+  fetches text g k reply x =
+      fetch_stage
+      k.f k.d (decodes g k reply).flow (plans text g k reply) x (executes k reply).redirect
 
   abbrev pub latches_after : ℕ → Registers → Latches → Option Reply → Option Fetched → Latches
   latches_after text g k reply x = record {
@@ -74,38 +77,61 @@ clock_record clock k notes = record {
 }
 
 abbrev pub stop_notes : Notes
-stop_notes = record { fetch_wait = false; hazard = false; data_wait = false; rollback = false; stop = true }
+stop_notes = record {
+  fetch_wait = false;
+  hazard = false;
+  data_wait = false;
+  rollback = false;
+  stop = true;
+}
 
--- a hazard keeps D where X moved on
+-- a hazard stalls D while X moves
 abbrev pub move_notes : ℕ → Registers → Latches → Option Reply → Option Reply → Notes
 move_notes size g k reply answer = record {
   fetch_wait = is_wait answer;
-  hazard = moves (executes size k reply).flow && stays (decodes size g k reply).flow;
-  data_wait = stays (completes size k reply).flow;
+  hazard = moves (executes size k reply).flow && stalls (decodes size g k reply).flow;
+  data_wait = stalls (completes size k reply).flow;
   rollback = rolls_back (decodes size g k reply).flow;
   stop = false;
 }
 
 -- ---- the clock
 
-module _ {P I D : Type 0} (table : Table P) (instructions : Meaning I) (words : Meaning D) where
+-- the sizes of the two memories
+abbrev pub text_size : {P I D : Type 0} → Meaning I → Core P I D → ℕ
+text_size instructions m = instructions.view.size m.instructions
+
+abbrev pub data_size : {P I D : Type 0} → Meaning D → Core P I D → ℕ
+data_size words m = words.view.size m.«data»
+
+module _ {P I D : Type 0} (table : TableOf P) (instructions : Meaning I) (words : Meaning D) where
   -- W is written back and the rest moves on, by the replies of the two memories
   pub record Moved (m : Core P I D) (e : Event) (n : Core P I D) : Type 0 where
     pub reply : Option Reply
     pub answer : Option Reply
     pub taught : Taught table m.predictor (outcome_of (retirement_of m.latches.w)) n.predictor
-    pub data_asked : Asked words m.«data» (sent (data_request (words.view.size m.«data») m.latches.m)) reply n.«data»
-    pub registers : n.registers ≡ written_back m.registers m.latches.w
-    pub text_asked : Asked instructions m.instructions (sent (plans (words.view.size m.«data») (instructions.view.size m.instructions) n.registers m.latches reply)) answer n.instructions
-    pub latches : n.latches ≡ latches_after (words.view.size m.«data») (instructions.view.size m.instructions) n.registers m.latches reply (arrival table n.predictor m.latches.f answer)
+    pub data_asked : Asked words m.«data»
+        (bus_request (data_request (data_size words m) m.latches.m)) reply n.«data»
+    pub registers : n.registers ≡ write_back m.registers m.latches.w
+    pub text_asked : Asked instructions m.instructions
+        (bus_request
+        (plans (data_size words m) (text_size instructions m) n.registers m.latches reply))
+        answer n.instructions
+    pub latches : n.latches
+        ≡ latches_after (data_size words m) (text_size instructions m) n.registers m.latches reply
+        (arrival table n.predictor m.latches.f answer)
     pub runs_on : n.stopped ≡ None
     pub counted : Counted m.counts
-        (has_fetched (plans (words.view.size m.«data») (instructions.view.size m.instructions) n.registers m.latches reply) (arrival table n.predictor m.latches.f answer))
+        (has_fetched
+        (plans (data_size words m) (text_size instructions m) n.registers m.latches reply)
+        (arrival table n.predictor m.latches.f answer))
         (is_some (retirement_of m.latches.w))
-        (dropped m.latches (completes (words.view.size m.«data») m.latches reply).flow (executes (words.view.size m.«data») m.latches reply).flow)
+        (dropped_count m.latches (completes (data_size words m) m.latches reply).flow
+        (executes (data_size words m) m.latches reply).flow)
         n.counts
     pub event : e ≡ record {
-      clock = clock_record n.counts.clocks m.latches (move_notes (words.view.size m.«data») n.registers m.latches reply answer);
+      clock = clock_record n.counts.clocks m.latches
+          (move_notes (data_size words m) n.registers m.latches reply answer);
       retirement = retirement_of m.latches.w;
     }
 
@@ -118,7 +144,10 @@ module _ {P I D : Type 0} (table : Table P) (instructions : Meaning I) (words : 
     pub latches : n.latches ≡ record m.latches { w = Empty }
     pub stops : n.stopped ≡ Some stop
     pub counted : Counted m.counts false false 0 n.counts
-    pub event : e ≡ record { clock = clock_record n.counts.clocks m.latches stop_notes; retirement = None }
+    pub event : e ≡ record {
+      clock = clock_record n.counts.clocks m.latches stop_notes;
+      retirement = None;
+    }
 
   abbrev pub Worked : Option Stop → Core P I D → Event → Core P I D → Type 0
   Worked None m e n = Moved m e n

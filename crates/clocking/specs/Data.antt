@@ -11,7 +11,7 @@ use Rattle.clocking.specs.declared.latch.Completed.{Completed}
 use Rattle.clocking.specs.declared.latch.Latch.{Latch}
 use Rattle.clocking.specs.declared.latch.Latch.TheVariants.{Empty, Faulting, Full}
 use Rattle.clocking.specs.declared.stage.Flow.{Flow}
-use Rattle.clocking.specs.declared.stage.Flow.TheVariants.{Moves, Stays, RollsBack}
+use Rattle.clocking.specs.declared.stage.Flow.TheVariants.{Moves, Stalls, RollsBack}
 
 -- W after the stage, and the flow of M
 pub record DataOut : Type 0 where
@@ -24,22 +24,31 @@ data_request size (Full e) = request size e.access e.result e.b
 data_request size m = Ok None
 
 abbrev pub complete : Executed → ℕ → Completed
-complete e v = record { address = e.address; word = e.word; rd = e.rd; value = v; outcome = e.outcome }
+complete e v = record {
+  address = e.address;
+  word = e.word;
+  rd = e.rd;
+  value = v;
+  outcome = e.outcome;
+}
 
 abbrev pub completes_with : Executed → ℕ → DataOut
 completes_with e v = record { w = Full (complete e v); flow = Moves }
 
 -- by the memory's reply, none where nothing was asked; a request that is within is never Outside
-abbrev pub answered : Executed → Option Reply → DataOut
-answered e (Some (Ok (Word w))) = completes_with e (loaded e.access e.result w)
-answered e (Some (Err Wait)) = record { w = Empty; flow = Stays }
-answered e r = completes_with e e.result
+abbrev pub take_reply : Executed → Option Reply → DataOut
+take_reply e (Some (Ok (Word w))) = completes_with e (loaded e.access e.result w)
+take_reply e (Some (Err Wait)) = record { w = Empty; flow = Stalls }
+take_reply e r = completes_with e e.result
 
-abbrev pub told : Executed → Result (Option Request) Cause → Option Reply → DataOut
-told e (Err c) r = record { w = Faulting (record { address = e.address; cause = c }); flow = RollsBack }
-told e (Ok q) r = answered e r
+abbrev pub use_memory : Executed → Result (Option Request) Cause → Option Reply → DataOut
+use_memory e (Err c) r = record {
+  w = Faulting (record { address = e.address; cause = c });
+  flow = RollsBack;
+}
+use_memory e (Ok q) r = take_reply e r
 
 abbrev pub data_stage : Latch Executed → Result (Option Request) Cause → Option Reply → DataOut
 data_stage Empty q r = record { w = Empty; flow = Moves }
 data_stage (Faulting stop) q r = record { w = Faulting stop; flow = RollsBack }
-data_stage (Full e) q r = told e q r
+data_stage (Full e) q r = use_memory e q r

@@ -14,7 +14,7 @@ use Rattle.clocking.specs.declared.latch.Completed.{Completed}
 use Rattle.clocking.specs.declared.latch.Latch.{Latch}
 use Rattle.clocking.specs.declared.latch.Latch.TheVariants.{Empty, Faulting, Full}
 use Rattle.clocking.specs.declared.stage.Flow.{Flow}
-use Rattle.clocking.specs.declared.stage.Flow.TheVariants.{Moves, Stays, RollsBack}
+use Rattle.clocking.specs.declared.stage.Flow.TheVariants.{Moves, Stalls, RollsBack}
 
 -- X after the stage, and the flow of D
 pub record DecodeOut : Type 0 where
@@ -27,21 +27,21 @@ gives None r = false
 gives (Some rd) r = rd.number == r.number
 
 -- a load in X has no value yet
-abbrev pub early : Option Access → ℕ → Option ℕ
-early (Some (Load k)) v = None
-early how v = Some v
+abbrev pub early_value : Option Access → ℕ → Option ℕ
+early_value (Some (Load k)) v = None
+early_value how v = Some v
 
 abbrev pub from_x : Latch Executed → Register → Option (Option ℕ)
-from_x (Full e) r = if gives e.rd r then Some (early e.access e.result) else None
+from_x (Full e) r = if gives e.rd r then Some (early_value e.access e.result) else None
 from_x x r = None
 
 -- M with this clock's answer: its value, if it went to W
-abbrev pub arrived : Latch Completed → Option ℕ
-arrived (Full c) = Some c.value
-arrived answer = None
+abbrev pub late_value : Latch Completed → Option ℕ
+late_value (Full c) = Some c.value
+late_value answer = None
 
 abbrev pub from_m : Latch Executed → Latch Completed → Register → Option (Option ℕ)
-from_m (Full e) answer r = if gives e.rd r then Some (arrived answer) else None
+from_m (Full e) answer r = if gives e.rd r then Some (late_value answer) else None
 from_m m answer r = None
 
 abbrev pub from_w : Latch Completed → Register → Option (Option ℕ)
@@ -56,36 +56,50 @@ abbrev pub value_of : Registers → Register → ℕ
 value_of g r = slice_index g r.number
 
 -- the youngest that writes the register gives it: X, then M, then W, else the register file
-abbrev pub values_in_flight : Latch Executed → Latch Executed → Latch Completed → Latch Completed → Registers → Register → Option ℕ
-values_in_flight x m answer w g r = or_else (from_x x r) (or_else (from_m m answer r) (or_else (from_w w r) (Some (value_of g r))))
+abbrev pub values_in_flight : Latch Executed → Latch Executed → Latch Completed → Latch Completed
+    → Registers → Register → Option ℕ
+values_in_flight x m answer w g r =
+    or_else (from_x x r) (or_else (from_m m answer r) (or_else (from_w w r) (Some (value_of g r))))
 
--- what there is to read: x0, and what is not read, is 0
+-- an operand: x0, and what is not read, is 0
 abbrev pub source : (Register → Option ℕ) → Option Register → Option ℕ
 source f None = Some 0
 source f (Some r) = f r
 
 abbrev pub with_operands : Fetched → Instruction → Option ℕ → Option ℕ → DecodeOut
 with_operands f i (Some a) (Some b) = record {
-  x = Full (record { address = f.address; word = f.word; instruction = i; rd = destination i; a = a; b = b; guess = f.guess });
+  x = Full (record {
+    address = f.address;
+    word = f.word;
+    instruction = i;
+    rd = destination i;
+    a = a;
+    b = b;
+    guess = f.guess;
+  });
   flow = Moves;
 }
-with_operands f i a b = record { x = Empty; flow = Stays }
+with_operands f i a b = record { x = Empty; flow = Stalls }
 
 abbrev pub decode_word : (Register → Option ℕ) → Fetched → Result Instruction Cause → DecodeOut
-decode_word reads f (Err c) = record { x = Faulting (record { address = f.address; cause = c }); flow = Moves }
-decode_word reads f (Ok i) = with_operands f i (source reads (first_source i)) (source reads (second_source i))
+decode_word reads f (Err c) = record {
+  x = Faulting (record { address = f.address; cause = c });
+  flow = Moves;
+}
+decode_word reads f (Ok i) =
+    with_operands f i (source reads (first_source i)) (source reads (second_source i))
 
 abbrev pub decode_moves : (Register → Option ℕ) → Latch Fetched → DecodeOut
 decode_moves reads Empty = record { x = Empty; flow = Moves }
 decode_moves reads (Faulting stop) = record { x = Faulting stop; flow = Moves }
 decode_moves reads (Full f) = decode_word reads f f.issued
 
-abbrev pub decode_stays : Latch Decoded → Latch Fetched → DecodeOut
-decode_stays x Empty = record { x = x; flow = Moves }
-decode_stays x d = record { x = x; flow = Stays }
+abbrev pub decode_stalls : Latch Decoded → Latch Fetched → DecodeOut
+decode_stalls x Empty = record { x = x; flow = Moves }
+decode_stalls x d = record { x = x; flow = Stalls }
 
--- by what the execute stage did with X
+-- by the flow of X
 abbrev pub decode_stage : (Register → Option ℕ) → Latch Decoded → Latch Fetched → Flow → DecodeOut
 decode_stage reads x d RollsBack = record { x = Empty; flow = RollsBack }
-decode_stage reads x d Stays = decode_stays x d
+decode_stage reads x d Stalls = decode_stalls x d
 decode_stage reads x d Moves = decode_moves reads d

@@ -9,35 +9,39 @@ use Rattle.clocking.specs.declared.latch.Fetched.{Fetched}
 use Rattle.clocking.specs.declared.latch.Latch.{Latch}
 use Rattle.clocking.specs.declared.latch.Latch.TheVariants.{Empty, Faulting, Full}
 use Rattle.clocking.specs.declared.stage.Flow.{Flow}
-use Rattle.clocking.specs.declared.stage.Flow.TheVariants.{Moves, Stays, RollsBack}
+use Rattle.clocking.specs.declared.stage.Flow.TheVariants.{Moves, Stalls, RollsBack}
 
--- where fetching goes on, and what goes to D
+-- F and D after the stage
 pub record FetchOut : Type 0 where
   pub f : ℕ
   pub d : Latch Fetched
 
--- what is asked of an instruction memory of that size for f, or the cause that f has, by what the decode stage did with D
-abbrev pub fetching : ℕ → ℕ → Flow → Result (Option Request) Cause
-fetching size f Moves =
+-- what is asked of an instruction memory of that size for f, or the cause of f, by the flow of D
+abbrev pub fetch_request : ℕ → ℕ → Flow → Result (Option Request) Cause
+fetch_request size f Moves =
     if f % 4 == 0 then (if nat_lt f size then Ok (Some (Read f)) else Err FetchOutside)
     else Err JumpMisaligned
-fetching size f flow = Ok None
+fetch_request size f flow = Ok None
 
-abbrev pub redirected : ℕ → Option ℕ → ℕ
-redirected f None = f
-redirected f (Some n) = n
+abbrev pub resume_at : ℕ → Option ℕ → ℕ
+resume_at f None = f
+resume_at f (Some n) = n
 
--- what arrived is put into D, with the guess where fetching goes on
-abbrev pub placed : ℕ → Option Fetched → FetchOut
-placed f None = record { f = f; d = Empty }
-placed f (Some x) = record { f = x.guess; d = Full x }
+-- what arrives is put into D, and F is its guess
+abbrev pub fill_d : ℕ → Option Fetched → FetchOut
+fill_d f None = record { f = f; d = Empty }
+fill_d f (Some x) = record { f = x.guess; d = Full x }
 
 abbrev pub fetches_on : ℕ → Result (Option Request) Cause → Option Fetched → FetchOut
-fetches_on f (Err c) x = record { f = following f; d = Faulting (record { address = f; cause = c }) }
+fetches_on f (Err c) x = record {
+  f = following f;
+  d = Faulting (record { address = f; cause = c });
+}
 fetches_on f (Ok None) x = record { f = f; d = Empty }
-fetches_on f (Ok (Some q)) x = placed f x
+fetches_on f (Ok (Some q)) x = fill_d f x
 
-abbrev pub fetch_stage : ℕ → Latch Fetched → Flow → Result (Option Request) Cause → Option Fetched → Option ℕ → FetchOut
-fetch_stage f d RollsBack asked x redirect = record { f = redirected f redirect; d = Empty }
-fetch_stage f d Stays asked x redirect = record { f = f; d = d }
+abbrev pub fetch_stage : ℕ → Latch Fetched → Flow → Result (Option Request) Cause → Option Fetched
+    → Option ℕ → FetchOut
+fetch_stage f d RollsBack asked x redirect = record { f = resume_at f redirect; d = Empty }
+fetch_stage f d Stalls asked x redirect = record { f = f; d = d }
 fetch_stage f d Moves asked x redirect = fetches_on f asked x

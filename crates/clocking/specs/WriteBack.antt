@@ -17,13 +17,16 @@ stop_of w = None
 
 -- W retires where it is full and not faulting
 abbrev pub retirement_of : Latch Completed → Option Retirement
-retirement_of (Full c) = Some (record { retired = retired c.address c.word c.rd c.value; outcome = c.outcome })
+retirement_of (Full c) = Some (record {
+  retired = retired c.address c.word c.rd c.value;
+  outcome = c.outcome;
+})
 retirement_of w = None
 
 abbrev pub outcome_of : Option Retirement → Option Outcome
 outcome_of None = None
 outcome_of (Some r) = r.outcome
 
-abbrev pub written_back : Registers → Latch Completed → Registers
-written_back g (Full c) = written g c.rd c.value
-written_back g w = g
+abbrev pub write_back : Registers → Latch Completed → Registers
+write_back g (Full c) = written g c.rd c.value
+write_back g w = g

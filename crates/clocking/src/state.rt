@@ -30,7 +30,7 @@ pub struct Notes {
     pub hazard: bool,
     /// The data memory said Wait.
     pub data_wait: bool,
-    /// A cause in data, or a wrong guess in execute, dropped what was fetched after it.
+    /// A fault in data, or a wrong guess in execute, dropped what was fetched after it.
     pub rollback: bool,
     /// The machine stopped.
     pub stop: bool,

@@ -5,11 +5,11 @@ use Rattle.base.specs.Refusals.{reason}
 use Rattle.memory.specs.Meaning.{Meaning}
 use Rattle.clocking.specs.Clock.{Worked}
 use Rattle.clocking.specs.WriteBack.{stop_of}
-use Rattle.clocking.specs.Ports.{Table}
+use Rattle.clocking.specs.Ports.{TableOf}
 use Rattle.clocking.specs.declared.state.Core.{Core}
 use Rattle.clocking.specs.declared.state.Event.{Event}
 use Rattle.sequential.specs.declared.record.Stop.{Stop}
-use Rattle.pipeline.specs.Calls.{retired_entries, is_stopped, refusal_at, FreeClocks, start, next, EndedAt, RanHeard, Heard, silence, one_more, HeardRun}
+use Rattle.pipeline.specs.Calls.{retired_entries, is_stopped, refusal_at, FreeClocks, start, next, EndedAt, RunHeardCall, Heard, silence, one_more, HeardRun}
 use Rattle.pipeline.specs.Theorem.{followed_by, entries_of, run_heard}
 use Rattle.pipeline.specs.declared.machine.Machine.{Machine}
 use Rattle.pipeline.specs.declared.machine.Run.{Run}
@@ -42,7 +42,7 @@ gaps_hear g es k (one_more {es = fs} {l = i} e q h f a) =
     a ∙ ap (λ (x : Gaps). gaps_after x (retired_entries (e ∷ []))) (gaps_hear g fs i h) ∙ sym (gaps_append g (retired_entries fs) (retired_entries (e ∷ [])))
     ∙ ap (gaps_after g) (sym (retired_after fs (e ∷ [])))
 
-module _ {P I D : Type 0} (table : Table P) (instructions : Meaning I) (words : Meaning D) where
+module _ {P I D : Type 0} (table : TableOf P) (instructions : Meaning I) (words : Meaning D) where
   -- a clock counts itself
   worked_counts : (o : Option Stop) (m : Core P I D) (e : Event) (n : Core P I D) → Worked table instructions words o m e n → n.counts.clocks ≡ m.counts.clocks + 1
   worked_counts None m e n w = w.counted.clock_count
@@ -80,7 +80,7 @@ module _ {P I D : Type 0} (table : Table P) (instructions : Meaning I) (words : 
       not_past = made_within (reason r.why) ends
 
   -- a stretch whose listener is never full
-  module _ (m : Machine P I D) (n : ℕ) (r : Run) (es : List Event) (p : Machine P I D) (ran : RanHeard table instructions words false m n r es p) where
+  module _ (m : Machine P I D) (n : ℕ) (r : Run) (es : List Event) (p : Machine P I D) (ran : RunHeardCall table instructions words false m n r es p) where
     made_some : (why : ℕ) → EndedAt false p n r.made why → refusal_at false m ≡ 0 → 0 < n → r.made ≡ 0 → ⊥
     made_some zero e u rn z = let all = e.0 in omega arith
     made_some (suc why) e u rn z = let says = rw (none_made (λ _. false) m r.made es p ran.0 z) at e.1 in omega arith

@@ -7,13 +7,13 @@ use Rattle.memory.specs.Meaning.{Meaning, Lawful}
 use Rattle.sequential.specs.declared.record.Stop.{Stop}
 use Rattle.clocking.specs.Clock.{Worked}
 use Rattle.clocking.specs.WriteBack.{stop_of}
-use Rattle.clocking.specs.Ports.{Table}
+use Rattle.clocking.specs.Ports.{TableOf}
 use Rattle.clocking.specs.declared.state.Core.{Core}
 use Rattle.clocking.specs.declared.state.Event.{Event}
 use Rattle.clocking.proofs.Agrees.{Kept, Fresh, kept_first, kept_cycle, kept_agrees}
-use Rattle.pipeline.specs.Calls.{Logs, is_full, logged, retired_entries, clock_entries, refusal_at, Ticked, Clocked, FreeClocks, start, next, HoldCall, ReleaseCall}
+use Rattle.pipeline.specs.Calls.{Logs, is_full, with_events, retired_entries, clock_entries, refusal_at, Ticked, ClockCall, FreeClocks, start, next, HoldCall, ReleaseCall}
 use Rattle.pipeline.specs.Theorem.{Entries, followed_by, entries_of, Added, Calls, none, clock, run, run_heard, hold, release, pause, reading, Agrees}
-use Rattle.pipeline.specs.Pauses.{Paused}
+use Rattle.pipeline.specs.Pauses.{PauseCall}
 use Rattle.pipeline.specs.declared.machine.Machine.{Machine}
 use Rattle.pipeline.specs.declared.machine.Rejected.{Rejected}
 use Rattle.pipeline.specs.declared.token.HoldToken.{HoldToken}
@@ -44,7 +44,7 @@ told_more h put made w =
     ap (λ x. followed_by x (entries_of made)) w
     ∙ λ i. record { retired = sym (retired_after h made) i; clocks = sym (clocks_after h made) i }
 
-written_more : (h : List Event) (put : Entries) (before after : Logs) (made : List Event) (added : Entries) → put ≡ entries_of h → after ≡ logged before made → Added before after added
+written_more : (h : List Event) (put : Entries) (before after : Logs) (made : List Event) (added : Entries) → put ≡ entries_of h → after ≡ with_events before made → Added before after added
     → followed_by put added ≡ entries_of (h ++ made)
 written_more h put before after made added w e a =
     let r : added.retired ≡ retired_entries made =
@@ -53,7 +53,7 @@ written_more h put before after made added w e a =
     append_cancel_left before.clocks.records added.clocks (clock_entries made) (sym a.clocks ∙ ap (λ (l : Logs). l.clocks.records) e) in
     (λ i. followed_by put (record { retired = r i; clocks = c i })) ∙ told_more h put made w
 
-module _ {P I D : Type 0} (table : Table P) (instructions : Meaning I) (words : Meaning D) (il : Lawful instructions) (dl : Lawful words) (first : Machine P I D) where
+module _ {P I D : Type 0} (table : TableOf P) (instructions : Meaning I) (words : Meaning D) (il : Lawful instructions) (dl : Lawful words) (first : Machine P I D) where
   record Holds (h : List Event) (m : Core P I D) : Type 0 where
     kept : Kept table instructions words il dl first.core h m
     numbered : NumberedFrom 1 h
@@ -77,9 +77,9 @@ module _ {P I D : Type 0} (table : Table P) (instructions : Meaning I) (words : 
         bounded = omega arith;
       }
 
-  by_clocked : (h : List Event) (l j : Logs) (m : Machine P I D) (r : Result (Unit {0}) Refusal) (es : List Event) (n : Machine P I D) → Holds h m.core → Clocked table instructions words l m r es j n
-      → Holds (h ++ es) n.core × (j ≡ logged l es)
-  by_clocked h l j m (Err why) es n k c = (rw (c.1, c.2, append-nil h) k, c.3 ∙ sym (logged_none l) ∙ ap (logged l) (sym c.1))
+  by_clocked : (h : List Event) (l j : Logs) (m : Machine P I D) (r : Result (Unit {0}) Refusal) (es : List Event) (n : Machine P I D) → Holds h m.core → ClockCall table instructions words l m r es j n
+      → Holds (h ++ es) n.core × (j ≡ with_events l es)
+  by_clocked h l j m (Err why) es n k c = (rw (c.1, c.2, append-nil h) k, c.3 ∙ sym (logged_none l) ∙ ap (with_events l) (sym c.1))
   by_clocked h l j m (Ok u) es n k c = (rw c.1.1 (by_clock h (is_full l) m c.1.0 n k c.0 c.1.2), c.2)
 
   by_clocks : (h : List Event) (full : List Event → Bool) (m : Machine P I D) (j : ℕ) (es : List Event) (n : Machine P I D) → Holds h m.core → FreeClocks table instructions words full m j es n → Holds (h ++ es) n.core
@@ -95,7 +95,7 @@ module _ {P I D : Type 0} (table : Table P) (instructions : Meaning I) (words : 
   by_release h m token (Ok u) n k c = rw c.2 k
   by_release h m token (Err e) n k c = rw c.3 k
 
-  by_pause : (h : List Event) (m : Machine P I D) (r : Result (Unit {0}) Refusal) (n : Machine P I D) → Holds h m.core → Paused m r n → Holds h n.core
+  by_pause : (h : List Event) (m : Machine P I D) (r : Result (Unit {0}) Refusal) (n : Machine P I D) → Holds h m.core → PauseCall m r n → Holds h n.core
   by_pause h m (Ok u) n k c = rw c.1 k
   by_pause h m (Err why) n k c = rw c.2 k
 
@@ -107,7 +107,7 @@ module _ {P I D : Type 0} (table : Table P) (instructions : Meaning I) (words : 
       (d.0, written_more g q before after es added b.1 d.1 a)
   by_calls h put m k (run {h = g} {put = q} {m = p} before after count r es added n cs c a) =
       let b = by_calls g q p k cs in
-      (by_clocks g (λ x. is_full (logged before x)) p r.made es n b.0 c.0, written_more g q before after es added b.1 c.1 a)
+      (by_clocks g (λ x. is_full (with_events before x)) p r.made es n b.0 c.0, written_more g q before after es added b.1 c.1 a)
   by_calls h put m k (run_heard {h = g} {put = q} {m = p} full count r es n cs c) =
       let b = by_calls g q p k cs in
       (by_clocks g (λ _. false) p r.made es n b.0 c.0, told_more g q es b.1)

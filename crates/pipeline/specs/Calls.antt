@@ -8,7 +8,7 @@ use Rattle.memory.specs.Meaning.{Meaning}
 use Rattle.sequential.specs.declared.record.Retirement.{Retirement}
 use Rattle.clocking.specs.Clock.{Cycled}
 use Rattle.clocking.specs.Laws.{ClockLaws}
-use Rattle.clocking.specs.Ports.{Table}
+use Rattle.clocking.specs.Ports.{TableOf}
 use Rattle.clocking.specs.declared.state.ClockRecord.{ClockRecord}
 use Rattle.clocking.specs.declared.state.Event.{Event}
 use Rattle.clocking.specs.declared.latch.Latch.TheVariants.{Empty}
@@ -92,8 +92,8 @@ abbrev pub clock_entries : List Event → List ClockRecord
 clock_entries [] = []
 clock_entries (e ∷ es) = e.clock ∷ clock_entries es
 
-abbrev pub logged : Logs → List Event → Logs
-logged l es = record {
+abbrev pub with_events : Logs → List Event → Logs
+with_events l es = record {
   retired = with_records l.retired (retired_entries es);
   clocks = with_records l.clocks (clock_entries es);
 }
@@ -117,7 +117,7 @@ refusal_at full m =
 abbrev pub refusal : {P I D : Type 0} → Logs → Machine P I D → ℕ
 refusal l m = refusal_at (is_full l) m
 
-module _ {P I D : Type 0} (table : Table P) (instructions : Meaning I) (words : Meaning D) where
+module _ {P I D : Type 0} (table : TableOf P) (instructions : Meaning I) (words : Meaning D) where
   -- an accepted clock of the machine: it is what the rule has, and keeps the laws
   pub record Ticked (m : Machine P I D) (e : Event) (n : Machine P I D) : Type 0 where
     pub same_serial : n.serial ≡ m.serial
@@ -129,22 +129,22 @@ module _ {P I D : Type 0} (table : Table P) (instructions : Meaning I) (words : 
   OneClock m es n = (e : Event) × (es ≡ e ∷ []) × Ticked m e n
 
   -- the clocks es that the call made, one or none, and the logs j and the machine n after it
-  abbrev pub Clocked : Logs → Machine P I D → Result (Unit {0}) Refusal
+  abbrev pub ClockCall : Logs → Machine P I D → Result (Unit {0}) Refusal
       → List Event → Logs → Machine P I D → Type 0
-  Clocked l m r es j n =
+  ClockCall l m r es j n =
       Says
-      (λ _. (refusal l m ≡ 0) × OneClock m es n × (j ≡ logged l es))
+      (λ _. (refusal l m ≡ 0) × OneClock m es n × (j ≡ with_events l es))
       (λ why. (refusal l m ≡ why) × (es ≡ []) × (n ≡ m) × (j ≡ l))
       r
 
-  abbrev pub ClockedInto : Logs → Machine P I D → Result (Unit {0}) Refusal → Logs → Machine P I D → Type 0
-  ClockedInto l m r j n = (es : List Event) × Clocked l m r es j n
+  abbrev pub ClockInto : Logs → Machine P I D → Result (Unit {0}) Refusal → Logs → Machine P I D → Type 0
+  ClockInto l m r j n = (es : List Event) × ClockCall l m r es j n
 
 -- ---- run
 
 -- a number of accepted clocks in a row, where after some events who hears them may be full
 pub data FreeClocks {P I D : Type 0}
-    (table : Table P) (instructions : Meaning I) (words : Meaning D) (full : List Event → Bool)
+    (table : TableOf P) (instructions : Meaning I) (words : Meaning D) (full : List Event → Bool)
     (m : Machine P I D)
     : ℕ → List Event → Machine P I D → Type 0 where
   start : FreeClocks table instructions words full m 0 [] m
@@ -155,10 +155,10 @@ pub data FreeClocks {P I D : Type 0}
       → FreeClocks table instructions words full m (k + 1) (es ++ e ∷ []) p
 
 -- those into logs
-abbrev pub Clocks : {P I D : Type 0} → Table P → Meaning I → Meaning D → Logs → Machine P I D
+abbrev pub Clocks : {P I D : Type 0} → TableOf P → Meaning I → Meaning D → Logs → Machine P I D
     → ℕ → List Event → Machine P I D → Type 0
 Clocks table instructions words l =
-    FreeClocks table instructions words (λ es. is_full (logged l es))
+    FreeClocks table instructions words (λ es. is_full (with_events l es))
 
 -- fewer than asked for, or none asked for
 abbrev pub Short : ℕ → ℕ → Type 0
@@ -176,24 +176,24 @@ EndedAt full p n made why = Short made n × (refusal_at full p ≡ why)
 abbrev pub Ended : {P I D : Type 0} → Logs → Machine P I D → ℕ → ℕ → ℕ → Type 0
 Ended j = EndedAt (is_full j)
 
-module _ {P I D : Type 0} (table : Table P) (instructions : Meaning I) (words : Meaning D) where
+module _ {P I D : Type 0} (table : TableOf P) (instructions : Meaning I) (words : Meaning D) where
   -- the clocks es that the call made, and the logs j and the machine p after it
-  abbrev pub Ran : Logs → Machine P I D → ℕ → Run → List Event → Logs → Machine P I D → Type 0
-  Ran l m n r es j p =
+  abbrev pub RunCall : Logs → Machine P I D → ℕ → Run → List Event → Logs → Machine P I D → Type 0
+  RunCall l m n r es j p =
       Clocks table instructions words l m r.made es p
-      × (j ≡ logged l es)
+      × (j ≡ with_events l es)
       × Ended j p n r.made (reason r.why)
 
-  abbrev pub RanInto : Logs → Machine P I D → ℕ → Run → Logs → Machine P I D → Type 0
-  RanInto l m n r j p = (es : List Event) × Ran l m n r es j p
+  abbrev pub RunInto : Logs → Machine P I D → ℕ → Run → Logs → Machine P I D → Type 0
+  RunInto l m n r j p = (es : List Event) × RunCall l m n r es j p
 
 -- ---- a run that a listener hears
 
-module _ {P I D : Type 0} (table : Table P) (instructions : Meaning I) (words : Meaning D) where
+module _ {P I D : Type 0} (table : TableOf P) (instructions : Meaning I) (words : Meaning D) where
   -- the clocks es that the call made and the machine p after it; the listener may be full at its end,
   -- and was not before
-  abbrev pub RanHeard : Bool → Machine P I D → ℕ → Run → List Event → Machine P I D → Type 0
-  RanHeard full m n r es p =
+  abbrev pub RunHeardCall : Bool → Machine P I D → ℕ → Run → List Event → Machine P I D → Type 0
+  RunHeardCall full m n r es p =
       FreeClocks table instructions words (λ _. false) m r.made es p
       × EndedAt full p n r.made (reason r.why)
 
@@ -208,10 +208,10 @@ module _ {L : Type 0} (heard : L → Event → L → Type 0) (full : L → Bool)
         → Heard before (es ++ e ∷ []) after
 
   -- the listener i and the machine p after the call: what i heard is what was made
-  abbrev pub HeardRun : {P I D : Type 0} → Table P → Meaning I → Meaning D
+  abbrev pub HeardRun : {P I D : Type 0} → TableOf P → Meaning I → Meaning D
       → L → Machine P I D → ℕ → Run → L → Machine P I D → Type 0
   HeardRun table instructions words l m n r i p =
-      (es : List Event) × RanHeard table instructions words (full i) m n r es p × Heard l es i
+      (es : List Event) × RunHeardCall table instructions words (full i) m n r es p × Heard l es i
 
 -- ---- hold and release
 

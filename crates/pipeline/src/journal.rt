@@ -1,7 +1,7 @@
 //! The two logs that a machine's clocks go to.
 ghost use Rattle.std.specs.Prelude.{◌≡◌, [], ◌∷◌, length, false};
 ghost use Rattle.base.specs.Logs.{room};
-ghost use Rattle.pipeline.specs.Calls.{empty_logs, is_full, logged};
+ghost use Rattle.pipeline.specs.Calls.{empty_logs, is_full, with_events};
 ghost use Rattle.pipeline.specs.Logged.{logs, SameSlots, Adds};
 
 use crate::machine::RetiredAt;
@@ -37,7 +37,7 @@ impl<'a> Journal<'a> {
     /// Adds the records of a clock, for which there is room.
     fn record(&mut self, event: Event)
         requires { is_full (logs self.old) ≡ false }
-        ensures adds { logs self.new ≡ logged (logs self.old) (event ∷ []) }
+        ensures adds { logs self.new ≡ with_events (logs self.old) (event ∷ []) }
         ensures slots { SameSlots self.old self.new }
     {
         if let Some(retirement) = event.retirement {

@@ -7,10 +7,10 @@ use Rattle.base.specs.Logs.{records}
 use Rattle.base.specs.Refusals.{reason}
 use Rattle.memory.specs.Meaning.{Meaning}
 use Rattle.sequential.specs.declared.record.Retirement.{Retirement}
-use Rattle.clocking.specs.Ports.{Table}
+use Rattle.clocking.specs.Ports.{TableOf}
 use Rattle.clocking.specs.declared.state.ClockRecord.{ClockRecord}
 use Rattle.clocking.specs.declared.state.Event.{Event}
-use Rattle.pipeline.specs.Calls.{Logs, empty_logs, is_full, logged, retired_at, retired_entries, clock_entries, is_stopped, Clocks, start, next, Ended, Ran, RanInto}
+use Rattle.pipeline.specs.Calls.{Logs, empty_logs, is_full, with_events, retired_at, retired_entries, clock_entries, is_stopped, Clocks, start, next, Ended, RunCall, RunInto}
 use Rattle.pipeline.specs.Logged.{logs}
 use Rattle.pipeline.specs.Theorem.{Entries, no_entries, followed_by, entries_of, Calls, none, run}
 use Rattle.pipeline.specs.declared.journal.Journal.{Journal}
@@ -47,7 +47,7 @@ clocks_many [] = refl
 clocks_many (e ∷ es) = let rest = clocks_many es in omega arith
 
 -- with no slot left in logs of n, n clocks were made at least
-all_filled : (n : ℕ) (a : List RetiredAt) (b : List ClockRecord) (es : List Event) → length a ≡ n → length b ≡ n → is_full (logged (empty_logs a b) es) ≡ true → n ≤ length es
+all_filled : (n : ℕ) (a : List RetiredAt) (b : List ClockRecord) (es : List Event) → length a ≡ n → length b ≡ n → is_full (with_events (empty_logs a b) es) ≡ true → n ≤ length es
 all_filled n a b es la lb full =
     let few = retired_few es in
     let many = clocks_many es in
@@ -56,7 +56,7 @@ all_filled n a b es la lb full =
 
 -- the machine that is not held, over logs with room for all, ends at the limit or stopped
 ended_why : {P I D : Type 0} (n : ℕ) (a : List RetiredAt) (b : List ClockRecord) (es : List Event) (p : Machine P I D) (made why : ℕ) → length a ≡ n → length b ≡ n
-    → Ended (logged (empty_logs a b) es) p n made why → p.held ≡ false → length es ≡ made → p.core.counts.clocks ≡ made → n ≤ 4294967295
+    → Ended (with_events (empty_logs a b) es) p n made why → p.held ≡ false → length es ≡ made → p.core.counts.clocks ≡ made → n ≤ 4294967295
     → (is_stopped p ≡ true) ⊎ (n ≤ p.core.counts.clocks)
 ended_why n a b es p made zero la lb e h k c bound = let all = e.0 in inr (omega arith)
 ended_why n a b es p made (suc why) la lb e h k c bound =
@@ -64,9 +64,9 @@ ended_why n a b es p made (suc why) la lb e h k c bound =
     (⊎_elim (λ x. inl x)
     (⊎_elim (λ x. let full = all_filled n a b es la lb x in inr (omega arith))
     (λ x. let spent = eqb-true p.core.counts.clocks 4294967295 x in inr (omega arith))))
-    (says_no (is_full (logged (empty_logs a b) es)) p (λ z. let some = e.1 in omega arith))
+    (says_no (is_full (with_events (empty_logs a b) es)) p (λ z. let some = e.1 in omega arith))
 
-module _ {P I D : Type 0} (table : Table P) (instructions : Meaning I) (words : Meaning D) where
+module _ {P I D : Type 0} (table : TableOf P) (instructions : Meaning I) (words : Meaning D) where
   events_counted : (l : Logs) (m : Machine P I D) (k : ℕ) (es : List Event) (n : Machine P I D) → Clocks table instructions words l m k es n → length es ≡ k
   events_counted l m k es n start = refl
   events_counted l m k es n (next {k = i} {es = fs} {n = p} e q c f t) =
@@ -83,15 +83,15 @@ module _ {P I D : Type 0} (table : Table P) (instructions : Meaning I) (words : 
     pub clocks_so : cs ≡ clock_entries history
 
   pub whole_run : (n : ℕ) (a : List RetiredAt) (b : List ClockRecord) (before after : Journal) (first last : Machine P I D) (r : Run) → n ≤ 4294967295 → logs before ≡ empty_logs a b
-      → length a ≡ n → length b ≡ n → RanInto table instructions words (logs before) first n r (logs after) last
+      → length a ≡ n → length b ≡ n → RunInto table instructions words (logs before) first n r (logs after) last
       → Whole n first last (records after.retirements) (records after.clocks)
   whole_run n a b before after first last r bound empty la lb ran =
       let es = ran.0 in
-      let P : Logs → Type 0 = λ l. Ran table instructions words l first n r es (logs after) last in
+      let P : Logs → Type 0 = λ l. RunCall table instructions words l first n r es (logs after) last in
       let made : P (empty_logs a b) = subst P empty ran.1 in
       let l = empty_logs a b in
-      let filled : logs after ≡ logged l es = made.1 in
-      let fulls : List Event → Bool = λ x. is_full (logged l x) in
+      let filled : logs after ≡ with_events l es = made.1 in
+      let fulls : List Event → Bool = λ x. is_full (with_events l x) in
       let on = clocks_on table instructions words fulls first n r es (is_full (logs after)) last made.0 made.2 in
       let past = not_past table instructions words fulls first n r es (is_full (logs after)) last made.0 made.2 in
       let counted = events_counted l first r.made es last made.0 in

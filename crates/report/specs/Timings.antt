@@ -7,7 +7,7 @@ use Rattle.base.specs.declared.failure.Failure.{Failure}
 use Rattle.base.specs.declared.refusal.Refusal.{Refusal}
 use Rattle.memory.specs.Flat.{flat_fits}
 use Rattle.memory.specs.Meaning.{Meaning}
-use Rattle.clocking.specs.Ports.{Table}
+use Rattle.clocking.specs.Ports.{TableOf}
 use Rattle.clocking.specs.declared.state.Event.{Event}
 use Rattle.pipeline.specs.Calls.{Loaded, load_fits, retired_entries, clock_entries}
 use Rattle.pipeline.specs.Readings.{totals}
@@ -43,7 +43,7 @@ abbrev pub timing_text : {P I D : Type 0} → Setup → Longest → List Event �
 timing_text s w h m = tables_if s.log h ++ report_text s w (outcomes_of m (gaps_after none_yet (retired_entries h)))
 
 -- the text is that of a run of a machine that was just loaded
-pub record Shown {P I D : Type 0} (table : Table P) (instructions : Meaning I) (words : Meaning D) (s : Setup) (w : Longest) (first : Machine P I D) (text : List ℕ) : Type 0 where
+pub record Shown {P I D : Type 0} (table : TableOf P) (instructions : Meaning I) (words : Meaning D) (s : Setup) (w : Longest) (first : Machine P I D) (text : List ℕ) : Type 0 where
   pub history : List Event
   pub put : Entries
   pub last : Machine P I D

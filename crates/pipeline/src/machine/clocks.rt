@@ -1,7 +1,7 @@
 //! Clocks, one or many.
 ghost use Rattle.std.specs.Prelude.{◌≡◌};
 ghost use Rattle.clocking.specs.declared.state.Event.{Event};
-ghost use Rattle.pipeline.specs.Calls.{Ticked, ClockedInto, RanInto, HeardRun, refusal_at};
+ghost use Rattle.pipeline.specs.Calls.{Ticked, ClockInto, RunInto, HeardRun, refusal_at};
 ghost use Rattle.pipeline.specs.Logged.{logs, SameSlots, Tested};
 
 use crate::journal::Journal;
@@ -47,7 +47,7 @@ impl<P: Predictor, I: Memory, D: Memory> Machine<P, I, D> {
     /// One clock. Its record is added to the journal, and that of what retires in it. A clock that is refused alters nothing:
     /// neither the machine nor any slot of the journal.
     pub fn clock(&mut self, journal: &mut Journal) -> Result<(), Refusal>
-        ensures does { ClockedInto P.Predictor.table I.Memory.means D.Memory.means
+        ensures does { ClockInto P.Predictor.table I.Memory.means D.Memory.means
             (logs journal.old) self.old result (logs journal.new) self.new }
         ensures slots { SameSlots journal.old journal.new }
     {
@@ -94,7 +94,7 @@ impl<P: Predictor, I: Memory, D: Memory> Machine<P, I, D> {
     /// Up to `n` clocks in a row: how many were made, and the refusal of the next where they are fewer. The first test is
     /// made also where `n` is 0, and where it says no, its refusal is the reason.
     pub fn run(&mut self, n: u32, journal: &mut Journal) -> Run
-        ensures does { RanInto P.Predictor.table I.Memory.means D.Memory.means
+        ensures does { RunInto P.Predictor.table I.Memory.means D.Memory.means
             (logs journal.old) self.old n result (logs journal.new) self.new }
         ensures slots { SameSlots journal.old journal.new }
     {

@@ -6,7 +6,7 @@ ghost use Rattle.pipeline.specs.Readings.{totals};
 
 use crate::machine::{Machine, Totals};
 use base::refusal::Refusal;
-use clock::counts::in_flight;
+use clock::counts::in_flight_count;
 use clocking::latch::Latches;
 use memory::{Memory, byte_at};
 use predictor::Predictor;
@@ -72,7 +72,7 @@ impl<P: Predictor, I: Memory, D: Memory> Machine<P, I, D> {
             fetched: core.counts.fetched,
             retired: core.counts.retired,
             dropped: core.counts.dropped,
-            in_flight: in_flight(&core.latches),
+            in_flight: in_flight_count(&core.latches),
             stopped: u32::from(core.stopped.is_some()),
         }
     }

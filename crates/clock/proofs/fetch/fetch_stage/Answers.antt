@@ -7,5 +7,5 @@ returns-in-Ok g c =
     let can = c.fetchable.ensures in
     rw c.in-Moves.is
     (fetch_asked g.P.Predictor.table g.I.Memory.means c.args.predictor.now c.args.f.now c.args.d.now c.args.redirect c.args.instructions.now c.read.new.self
-    (record { f = c.place.new.f; d = c.place.new.d }) c.place.result
-    (of_read c.read.result) (rw (c.in-Ok.is, c.size.ensures) at can) c.read.ensures c.place.ensures.f c.place.ensures.d c.place.ensures.fetched c.place.ensures.waits)
+    (record { f = c.fill_d.new.f; d = c.fill_d.new.d }) c.fill_d.result
+    (of_read c.read.result) (rw (c.in-Ok.is, c.size.ensures) at can) c.read.ensures c.fill_d.ensures.f c.fill_d.ensures.d c.fill_d.ensures.fetched c.fill_d.ensures.waits)

@@ -3,7 +3,8 @@ use Rattle.pipeline.specs.Calls.{is_stopped}
 use Rattle.pipeline.specs.Theorem.{no_entries, none}
 use Rattle.pipeline.specs.declared.machine.Totals.{Totals}
 use Rattle.longrun.proofs.Marking.{unmarked, marked_on}
-use Rattle.longrun.proofs.Stretches.{unrefused, clocks_on, held_on, not_past, some_made, stopped_short, reached_on}
+use Rattle.pipeline.proofs.RunFacts.{unrefused, clocks_on, held_on, not_past}
+use Rattle.longrun.proofs.Stretches.{some_made, stopped_short, reached_on}
 use Rattle.longrun.proofs.run.run_to.Given.{Over}
 use Rattle.longrun.proofs.run.run_to.Goals as goal
 

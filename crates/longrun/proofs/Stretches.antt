@@ -51,7 +51,7 @@ module _ {P I D : Type 0} (table : TableOf P) (instructions : Meaning I) (words 
         history = before.history ++ es;
         put = followed_by before.put (entries_of es);
         calls = run_heard false n r es q before.calls ran;
-        gaps_so =
-            gaps_hear k es j heard ∙ ap (λ (x : Gaps). gaps_after x (retired_entries es)) before.gaps_so
+        gaps =
+            gaps_hear k es j heard ∙ ap (λ (x : Gaps). gaps_after x (retired_entries es)) before.gaps
             ∙ sym (gaps_append g (retired_entries before.history) (retired_entries es)) ∙ ap (gaps_after g) (sym (retired_after before.history es));
       }

@@ -15,7 +15,7 @@ module _ {P I D : Type 0} (table : TableOf P) (instructions : Meaning I) (words 
     pub history : List Event
     pub put : Entries
     pub calls : Calls table instructions words m history put n
-    pub gaps_so : k ≡ gaps_after g (retired_entries history)
+    pub gaps : k ≡ gaps_after g (retired_entries history)
 
   -- the clocks of n have reached the limit and not passed it, if those of m had not, or n is held or has stopped
   pub record RanTo (limit : ℕ) (m : Machine P I D) (g : Gaps) (n : Machine P I D) (k : Gaps) : Type 0 where

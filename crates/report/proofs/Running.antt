@@ -32,8 +32,8 @@ module _ {P I D : Type 0} (table : TableOf P) (instructions : Meaning I) (words 
     pub put : Entries
     pub calls : Calls table instructions words first history put last
     pub finished : first.held ≡ false → first.core.counts.clocks ≡ 0 → Finished n last
-    pub retired_so : rs ≡ retired_entries history
-    pub clocks_so : cs ≡ clock_entries history
+    pub retired : rs ≡ retired_entries history
+    pub clocks : cs ≡ clock_entries history
 
   pub whole_run : (n : ℕ) (a : List RetiredAt) (b : List ClockRecord) (before after : Journal) (first last : Machine P I D) (r : Run) → n ≤ 4294967295 → logs before ≡ empty_logs a b
       → length a ≡ n → length b ≡ n → RunInto table instructions words (logs before) first n r (logs after) last
@@ -59,8 +59,8 @@ module _ {P I D : Type 0} (table : TableOf P) (instructions : Meaning I) (words 
           ended = ended_why n a b es last r.made (reason r.why) la lb (subst Q filled made.2)
               (held_on table instructions words fulls first n r es (is_full (logs after)) last made.0 made.2 ∙ held) counted (omega arith) bound;
         };
-        retired_so = ap (λ (x : Logs). x.retired.records) filled;
-        clocks_so = ap (λ (x : Logs). x.clocks.records) filled;
+        retired = ap (λ (x : Logs). x.retired.records) filled;
+        clocks = ap (λ (x : Logs). x.clocks.records) filled;
       }
 
   module _ (s : Setup) (w : Longest) (first last : Machine P I D) where
@@ -69,7 +69,7 @@ module _ {P I D : Type 0} (table : TableOf P) (instructions : Meaning I) (words 
         → text ≡ report_text s w o → Shown table instructions words s w first text
     unlogged_shown g k o text unasked fresh ran oe te =
         let h = ran.reached.history in
-        let gaps : k ≡ gaps_after none_yet (retired_entries h) = ran.reached.gaps_so ∙ ap (λ (x : Gaps). gaps_after x (retired_entries h)) fresh in
+        let gaps : k ≡ gaps_after none_yet (retired_entries h) = ran.reached.gaps ∙ ap (λ (x : Gaps). gaps_after x (retired_entries h)) fresh in
         record {
           history = h;
           put = ran.reached.put;
@@ -89,7 +89,7 @@ module _ {P I D : Type 0} (table : TableOf P) (instructions : Meaning I) (words 
         → o ≡ outcomes_of last g → text ≡ two_tables rs cs ++ report_text s w o → Shown table instructions words s w first text
     logged_shown g o rs cs text asked whole ge oe te =
         let h = whole.history in
-        let gaps : g ≡ gaps_after none_yet (retired_entries h) = ge ∙ ap (gaps_after none_yet) whole.retired_so in
+        let gaps : g ≡ gaps_after none_yet (retired_entries h) = ge ∙ ap (gaps_after none_yet) whole.retired in
         record {
           history = h;
           put = whole.put;
@@ -97,6 +97,6 @@ module _ {P I D : Type 0} (table : TableOf P) (instructions : Meaning I) (words 
           calls = whole.calls;
           finished = whole.finished;
           shown =
-              te ∙ (λ k. two_tables (whole.retired_so k) (whole.clocks_so k) ++ report_text s w ((oe ∙ ap (outcomes_of last) gaps) k))
+              te ∙ (λ k. two_tables (whole.retired k) (whole.clocks k) ++ report_text s w ((oe ∙ ap (outcomes_of last) gaps) k))
               ∙ ap (λ (b : Bool). tables_if b h ++ report_text s w (outcomes_of last (gaps_after none_yet (retired_entries h)))) (sym asked);
         }

@@ -21,9 +21,9 @@ pub record ClockPrinted (image text : List ℕ) : Type 0 where
   pub predictor : Never
   pub instructions : Flat
   pub words : Flat
-  pub image_so : vec_items instructions.bytes ≡ image
+  pub holds_image : vec_items instructions.bytes ≡ image
   pub image_whole : instructions.size ≡ length image
-  pub data_so : vec_items words.bytes ≡ replicate 4096 0
+  pub holds_zeros : vec_items words.bytes ≡ replicate 4096 0
   pub data_whole : words.size ≡ 4096
   pub first : Machine Never Flat Flat
   pub loaded : Loaded instructions.size 0 0 predictor instructions words first

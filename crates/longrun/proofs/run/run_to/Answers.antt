@@ -51,7 +51,7 @@ turn g c =
 
 pub loop-clocks-init : goal.loop-clocks-init
 loop-clocks-init g c =
-    let clocks = clocks_of c.counts-clocks.ensures in (record { history = []; put = no_entries; calls = none; gaps_so = refl }, clocks, (λ h. omega arith), refl, unmarked g.W.Watch.hears c.args.limit c.args.machine.now.core.counts.clocks c.args.watch.now (is_stopped c.args.machine.now))
+    let clocks = clocks_of c.counts-clocks.ensures in (record { history = []; put = no_entries; calls = none; gaps = refl }, clocks, (λ h. omega arith), refl, unmarked g.W.Watch.hears c.args.limit c.args.machine.now.core.counts.clocks c.args.watch.now (is_stopped c.args.machine.now))
 
 pub loop-clocks-smaller : goal.loop-clocks-smaller
 loop-clocks-smaller g c = let t = turn g c in let f = t.further in let b = t.not_beyond in omega arith

@@ -3,8 +3,8 @@ use Rattle.std.specs.Prelude.{◌≡◌, ℕ, ◌%◌, ◌<◌, ◌≤◌}
 use Rattle.base.specs.declared.bus.Request.{Request}
 use Rattle.memory.specs.Meaning.{Reply}
 use Rattle.memory.specs.Meaning.{Meaning, Lawful, View, Same, Served}
-use Rattle.wait_states.specs.WaitLaws.{wait_lawful}
-use Rattle.write_buffer.specs.BufferLaws.{buffer_lawful}
+use Rattle.wait_states.specs.Laws.WaitStates.{wait_lawful}
+use Rattle.write_buffer.specs.Laws.WriteBuffer.{buffer_lawful}
 use Rattle.dispatch.specs.declared.layer.Layer.{Layer}
 use Rattle.dispatch.specs.declared.layer.Layer.TheVariants.{Plain, WaitStates as Waits, WriteBuffer as Buffers}
 use Rattle.dispatch.specs.Layers.{layer_view, layer_means, LayerServes, LayerIdles}

@@ -16,11 +16,11 @@ use Rattle.report.specs.declared.timing.assembly.Assembly.{Assembly}
 
 -- the data memory, from what is said of the chosen memory of zero bytes
 pub data_answer : (s : Setup) (v : Vec ℕ Global) (r : Result ChosenMemory Failure) → flat_fits s.data_size ≡ true → vec_len v ≡ s.data_size → vec_items v ≡ replicate s.data_size 0
-    → ChosenAnswer v s.«data» r → DataAnswer s r
+    → ChosenAnswer v s.data_memory r → DataAnswer s r
 data_answer s v (Ok m) f n z b =
-    (f, (and_parts (flat_fits (vec_len v)) (layers_fit s.«data») b.fits).1, record { vector = v; holds = z; chosen = b })
+    (f, (and_parts (flat_fits (vec_len v)) (layers_fit s.data_memory) b.fits).1, record { vector = v; holds = z; chosen = b })
 data_answer s v (Err (Refused why)) f n z h =
-    (h.0 ∙ ap (λ (k : ℕ). if flat_fits k then 2 else 1) n, sym (ap (λ (k : ℕ). flat_fits k && layers_fit s.«data») n) ∙ h.1)
+    (h.0 ∙ ap (λ (k : ℕ). if flat_fits k then 2 else 1) n, sym (ap (λ (k : ℕ). flat_fits k && layers_fit s.data_memory) n) ∙ h.1)
 data_answer s v (Err (OutOfMemory error)) f n z h = f
 
 -- the first of two tests that fails
@@ -33,8 +33,8 @@ first_failing false l x n e z = ap Some (sym e)
 pub data_refused : (s : Setup) (image : List ℕ) (e : Failure) → layers_fit s.instructions ≡ true → DataAnswer s (Err e) → AssemblyAnswer s image (Err e)
 data_refused s image (Refused why) i h =
     let start = if not (load_fits 0 (length image) s.start) then Some 3 else None in
-    let tests = if not (flat_fits s.data_size) then Some 1 else if not (layers_fit s.«data») then Some 2 else start in
-    ap (λ (b : Bool). if not b then Some 2 else tests) i ∙ first_failing (flat_fits s.data_size) (layers_fit s.«data») start (number why) h.0 h.1
+    let tests = if not (flat_fits s.data_size) then Some 1 else if not (layers_fit s.data_memory) then Some 2 else start in
+    ap (λ (b : Bool). if not b then Some 2 else tests) i ∙ first_failing (flat_fits s.data_size) (layers_fit s.data_memory) start (number why) h.0 h.1
 data_refused s image (OutOfMemory error) i h = i
 
 -- the same of what it is converted to
@@ -44,7 +44,7 @@ data_refused_by s image e (Ok a) z by i h = absurd (true≢false (sym z))
 data_refused_by s image e (Err x) z by i h = let P : Failure → Type 0 = λ y. DataAnswer s (Err y) in data_refused s image x i (subst P (sym by) h)
 
 -- nothing is refused where all tests pass
-pub sound_setup : (s : Setup) (size : ℕ) → layers_fit s.instructions ≡ true → flat_fits s.data_size ≡ true → layers_fit s.«data» ≡ true → load_fits 0 size s.start ≡ true → refusal_of s size ≡ None
+pub sound_setup : (s : Setup) (size : ℕ) → layers_fit s.instructions ≡ true → flat_fits s.data_size ≡ true → layers_fit s.data_memory ≡ true → load_fits 0 size s.start ≡ true → refusal_of s size ≡ None
 sound_setup s size e f g h = rw (e, f, g, h)
 
 -- the whole answer, from its parts

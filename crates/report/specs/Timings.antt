@@ -71,7 +71,7 @@ pub record OfBytes (choice : StackChoice) (bytes : List ℕ) (m : ChosenMemory) 
 
 -- the longest waits that the chosen memories state
 abbrev pub longest_of : Setup → Longest
-longest_of s = record { instructions = stack_wait s.instructions; «data» = stack_wait s.«data» }
+longest_of s = record { instructions = stack_wait s.instructions; «data» = stack_wait s.data_memory }
 
 -- the machine is loaded with the chosen parts: the image, zero bytes of data and a fresh predictor
 pub record Assembled (s : Setup) (image : List ℕ) (m : Machine Guesser ChosenMemory ChosenMemory) : Type 0 where
@@ -80,7 +80,7 @@ pub record Assembled (s : Setup) (image : List ℕ) (m : Machine Guesser ChosenM
   pub words : ChosenMemory
   pub guesses : chosen_table predictor ≡ chosen_fresh s.predictor
   pub image_so : OfBytes s.instructions image instructions
-  pub data_so : OfBytes s.«data» (replicate s.data_size 0) words
+  pub data_so : OfBytes s.data_memory (replicate s.data_size 0) words
   pub loaded : Loaded (chosen_means.view.size instructions) 0 s.start predictor instructions words m
   pub agrees : Agrees chosen_table chosen_means chosen_means m
 
@@ -89,21 +89,21 @@ abbrev pub refusal_of : Setup → ℕ → Option ℕ
 refusal_of s size =
     if not (layers_fit s.instructions) then Some 2
     else if not (flat_fits s.data_size) then Some 1
-    else if not (layers_fit s.«data») then Some 2
+    else if not (layers_fit s.data_memory) then Some 2
     else if not (load_fits 0 size s.start) then Some 3
     else None
 
 -- the data memory of a set-up whose two checks pass
 abbrev pub DataMade : Setup → ChosenMemory → Type 0
 DataMade s m =
-    (flat_fits s.data_size ≡ true) × (layers_fit s.«data» ≡ true)
-    × OfBytes s.«data» (replicate s.data_size 0) m
+    (flat_fits s.data_size ≡ true) × (layers_fit s.data_memory ≡ true)
+    × OfBytes s.data_memory (replicate s.data_size 0) m
 
 -- the number of the first check that does not
 abbrev pub DataUnfit : Setup → ℕ → Type 0
 DataUnfit s why =
     (why ≡ (if flat_fits s.data_size then 2 else 1))
-    × (flat_fits s.data_size && layers_fit s.«data» ≡ false)
+    × (flat_fits s.data_size && layers_fit s.data_memory ≡ false)
 
 -- The data memory, or its refusal. There may be no memory only where a flat memory can have so many bytes.
 abbrev pub DataAnswer : Setup → Result ChosenMemory Failure → Type 0

@@ -46,7 +46,11 @@ impl fmt::Display for SetupLines {
         write!(
             f,
             "predictor {}\ninstructions {} longest {}\ndata {} longest {}\n",
-            setup.predictor, setup.instructions, longest.instructions, setup.data, longest.data
+            setup.predictor,
+            setup.instructions,
+            longest.instructions,
+            setup.data_memory,
+            longest.data
         )
     }
 }

@@ -27,7 +27,7 @@ fn data_memory(heap: Global, setup: &Setup) -> Result<ChosenMemory, Failure>
     let size = setup.data_size as usize;
     Flat::check(size)?;
     let zeros = vec![in heap; 0u8; size]?;
-    choose(heap, zeros, setup.data)
+    choose(heap, zeros, setup.data_memory)
 }
 
 /// Loads a machine with the chosen predictor and memories, of an image and of zero bytes of data.

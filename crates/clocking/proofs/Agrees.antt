@@ -109,12 +109,12 @@ module _ {P I D : Type 0} (table : Table P) (instructions : Meaning I) (words : 
 
   abbrev countdown : Core P I D → ℕ
   countdown m =
-      count world.data_size world.text_size wd (words.view.waits m.«data») (instructions.view.waits m.instructions) m.latches.w m.latches.m m.latches.x m.latches.d m.latches.f
+      count world.data_size world.instructions_size wd (words.view.waits m.«data») (instructions.view.waits m.instructions) m.latches.w m.latches.m m.latches.x m.latches.d m.latches.f
 
   -- what holds of a machine that has not stopped
   record Live (h : List Event) (s : State) (m : Core P I D) : Type 0 where
     chain : Chain world s (words.view.byte m.«data») m.registers m.latches
-    lull : Lulled world.text_size wi (instructions.view.waits m.instructions) m.latches.w m.latches.m m.latches.x m.latches.d m.latches.f
+    lull : Lulled world.instructions_size wi (instructions.view.waits m.instructions) m.latches.w m.latches.m m.latches.x m.latches.d m.latches.f
     in_budget : countdown m ≤ left (wi + wd + 3) (wi + wd + 5) h
 
   abbrev LiveIf : Option Stop → List Event → State → Core P I D → Type 0
@@ -129,8 +129,8 @@ module _ {P I D : Type 0} (table : Table P) (instructions : Meaning I) (words : 
     bytes : BytesSo world reached m.latches.w (words.view.byte m.«data»)
     live : LiveIf m.stopped h reached m
     data_size : words.view.size m.«data» ≡ world.data_size
-    text_size : instructions.view.size m.instructions ≡ world.text_size
-    text : instructions.view.byte m.instructions ≡ world.text
+    text_size : instructions.view.size m.instructions ≡ world.instructions_size
+    text : instructions.view.byte m.instructions ≡ world.instructions
     data_longest : words.view.longest m.«data» ≡ wd
     text_longest : instructions.view.longest m.instructions ≡ wi
     paced : Paced (wi + wd + 3) (wi + wd + 5) h
@@ -185,14 +185,14 @@ module _ {P I D : Type 0} (table : Table P) (instructions : Meaning I) (words : 
       }
 
   known : (h : List Event) (m : Core P I D) (e : Event) (n : Core P I D) → Kept h m → Moved table instructions words m e n
-      → Goes world.data_size world.text_size (written_back m.registers m.latches.w) m e n
+      → Goes world.data_size world.instructions_size (written_back m.registers m.latches.w) m e n
   known h m e n k w =
-      subst (λ (z : ℕ). Goes z world.text_size (written_back m.registers m.latches.w) m e n) k.data_size
+      subst (λ (z : ℕ). Goes z world.instructions_size (written_back m.registers m.latches.w) m e n) k.data_size
       (subst (λ (z : ℕ). Goes (words.view.size m.«data») z (written_back m.registers m.latches.w) m e n) k.text_size
       (subst (λ (z : Registers). Goes (words.view.size m.«data») (instructions.view.size m.instructions) z m e n) w.registers_so (goes m e n w)))
 
   module _ (h : List Event) (m : Core P I D) (e : Event) (n : Core P I D) (k : Kept h m) (l : Live h k.reached m) (flows : Flows m.latches.w)
-      (w : Goes world.data_size world.text_size (written_back m.registers m.latches.w) m e n) where
+      (w : Goes world.data_size world.instructions_size (written_back m.registers m.latches.w) m e n) where
     abbrev g : Registers
     g = written_back m.registers m.latches.w
 
@@ -200,13 +200,13 @@ module _ {P I D : Type 0} (table : Table P) (instructions : Meaning I) (words : 
     arrives = arrival table n.predictor m.latches.f w.answer
 
     abbrev next : Latches
-    next = latches_after world.data_size world.text_size g m.latches w.reply arrives
+    next = latches_after world.data_size world.instructions_size g m.latches w.reply arrives
 
     onward : (t : State) × Retires world k.reached m.latches.w t × Chain world t (words.view.byte n.«data») g next
     onward =
         clock_keeps world k.reached (words.view.byte m.«data») (words.view.byte n.«data») (instructions.view.byte n.instructions) m.registers m.latches w.reply w.answer
         arrives l.chain flows w.data_served
-        (subst (λ (z : ℕ → ℕ). Bytes world.text_size (sent (plans world.data_size world.text_size g m.latches w.reply)) w.answer z (instructions.view.byte n.instructions)) k.text w.text_served)
+        (subst (λ (z : ℕ → ℕ). Bytes world.instructions_size (sent (plans world.data_size world.instructions_size g m.latches w.reply)) w.answer z (instructions.view.byte n.instructions)) k.text w.text_served)
         (arrives_so table n.predictor m.latches.f w.answer)
 
     -- the waits that may be left, before and after
@@ -221,17 +221,17 @@ module _ {P I D : Type 0} (table : Table P) (instructions : Meaning I) (words : 
 
     -- the countdown after the clock
     abbrev ends : ℕ
-    ends = count world.data_size world.text_size wd (words.view.waits n.«data») (instructions.view.waits n.instructions) next.w next.m next.x next.d next.f
+    ends = count world.data_size world.instructions_size wd (words.view.waits n.«data») (instructions.view.waits n.instructions) next.w next.m next.x next.d next.f
 
     falls : Down (wi + wd + 3) m.latches.w (countdown m) ends
     falls =
-        down world.data_size world.text_size wd wi (words.view.waits m.«data») (words.view.waits n.«data») (instructions.view.waits m.instructions) (instructions.view.waits n.instructions)
+        down world.data_size world.instructions_size wd wi (words.view.waits m.«data») (words.view.waits n.«data») (instructions.view.waits m.instructions) (instructions.view.waits n.instructions)
         data_few_then text_few table n.predictor g (instructions.view.byte m.instructions) (instructions.view.byte n.instructions) w.reply w.answer
         m.latches.f m.latches.d m.latches.x m.latches.m m.latches.w flows w.data_worn (w.text_served, w.text_worn) l.lull data_few
 
-    lull_next : Lulled world.text_size wi (instructions.view.waits n.instructions) next.w next.m next.x next.d next.f
+    lull_next : Lulled world.instructions_size wi (instructions.view.waits n.instructions) next.w next.m next.x next.d next.f
     lull_next =
-        lulls world.data_size world.text_size wd wi (words.view.waits m.«data») (words.view.waits n.«data») (instructions.view.waits m.instructions) (instructions.view.waits n.instructions)
+        lulls world.data_size world.instructions_size wd wi (words.view.waits m.«data») (words.view.waits n.«data») (instructions.view.waits m.instructions) (instructions.view.waits n.instructions)
         data_few_then text_few table n.predictor g (instructions.view.byte m.instructions) (instructions.view.byte n.instructions) w.reply w.answer
         m.latches.f m.latches.d m.latches.x m.latches.m m.latches.w (w.text_served, w.text_worn)
 
@@ -241,7 +241,7 @@ module _ {P I D : Type 0} (table : Table P) (instructions : Meaning I) (words : 
     abbrev budgeted : (productive e ≡ false → 2 ≤ left (wi + wd + 3) (wi + wd + 5) h) × (ends ≤ cond (productive e) (wi + wd + 3) (left (wi + wd + 3) (wi + wd + 5) h - 1))
     budgeted =
         budget (wi + wd + 3) (countdown m) ends (left (wi + wd + 3) (wi + wd + 5) h) m.latches.w (productive e) produces falls
-        (least_one world.data_size world.text_size wd (words.view.waits n.«data») (instructions.view.waits n.instructions) next.w next.m next.x next.d next.f) l.in_budget
+        (least_one world.data_size world.instructions_size wd (words.view.waits n.«data») (instructions.view.waits n.instructions) next.w next.m next.x next.d next.f) l.in_budget
 
     live_next : (t : State) → Chain world t (words.view.byte n.«data») g next → Live (h ++ e ∷ []) t n
     live_next t c = record {
@@ -253,7 +253,7 @@ module _ {P I D : Type 0} (table : Table P) (instructions : Meaning I) (words : 
     accounted_next : m.stopped ≡ None → m.counts.clocks < 4294967295 → Accounted table instructions words first (h ++ e ∷ []) n
     accounted_next runs spent =
         let a = k.accounted in
-        let b = clock_balance world.data_size world.text_size g m.latches w.reply arrives in
+        let b = clock_balance world.data_size world.instructions_size g m.latches w.reply arrives in
         let c = dropped_most m.latches (completes world.data_size m.latches w.reply).flow (executes world.data_size m.latches w.reply).flow in
         let o = retires_count m.latches.w flows in
         let d = m.counts.ok.0 in
@@ -282,7 +282,7 @@ module _ {P I D : Type 0} (table : Table P) (instructions : Meaning I) (words : 
       data_size = w.data_size;
       text_size = w.text_size;
       text =
-          text_kept world.text_size m.latches.f (decodes world.data_size g m.latches w.reply).flow w.answer (instructions.view.byte m.instructions)
+          text_kept world.instructions_size m.latches.f (decodes world.data_size g m.latches w.reply).flow w.answer (instructions.view.byte m.instructions)
           (instructions.view.byte n.instructions) w.text_served
           ∙ k.text;
       data_longest = w.data_longest ∙ k.data_longest;
@@ -375,7 +375,7 @@ module _ {P I D : Type 0} (table : Table P) (instructions : Meaning I) (words : 
     in_budget =
         rw z.latches
         (let k =
-        at_first world.data_size world.text_size wd wi (words.view.waits first.«data») (instructions.view.waits first.instructions) (il.patient first.instructions) first.latches.f in
+        at_first world.data_size world.instructions_size wd wi (words.view.waits first.«data») (instructions.view.waits first.instructions) (il.patient first.instructions) first.latches.f in
         omega arith);
   }
 

@@ -10,7 +10,7 @@ use Rattle.rv32i.specs.declared.cause.Cause.{Cause}
 use Rattle.rv32i.specs.declared.effect.Effect.{Effect}
 use Rattle.rv32i.specs.declared.instruction.Instruction.{Instruction}
 use Rattle.rv32i.specs.declared.register.Register.{Register}
-use Rattle.sequential.specs.Sequential.{then}
+use Rattle.sequential.specs.Sequential.{and_then}
 use Rattle.clocking.specs.Counting.{is_wait, occupied, has_fetched, if_rolled, one_if}
 use Rattle.clocking.specs.Laws.{at_w, at_m, at_x, at_d, effect_of}
 use Rattle.clocking.specs.Stages.{ExecuteOut, DecodeOut, sent, data_request, told, data_stage, ran, turned, checked, execute_stage, source, with_operands, decode_word, decode_stage, fetching, fetches_on, fetch_stage}
@@ -68,7 +68,7 @@ turned_line : (m : Latch Executed) (d : Decoded) (e : Effect) (b : Bool) → Exe
 turned_line m d e true = refl
 turned_line m d e false = refl
 
-checked_line : (m : Latch Executed) (d : Decoded) (o : Result Effect Cause) → Executes Moves m (Full d) (checked d.address d.guess (then o (λ e. Ok (ran d e))))
+checked_line : (m : Latch Executed) (d : Decoded) (o : Result Effect Cause) → Executes Moves m (Full d) (checked d.address d.guess (and_then o (λ e. Ok (ran d e))))
 checked_line m d (Err c) = refl
 checked_line m d (Ok e) = turned_line m d e (eqb e.next d.guess)
 
@@ -85,7 +85,7 @@ turned_m : (d : Decoded) (e : Effect) (b : Bool) → at_m (turned (ran d e) b).m
 turned_m d e true = refl
 turned_m d e false = refl
 
-checked_m : (d : Decoded) (o : Result Effect Cause) → at_m (checked d.address d.guess (then o (λ e. Ok (ran d e)))).m ≡ at_x (Full d)
+checked_m : (d : Decoded) (o : Result Effect Cause) → at_m (checked d.address d.guess (and_then o (λ e. Ok (ran d e)))).m ≡ at_x (Full d)
 checked_m d (Err c) = refl
 checked_m d (Ok e) = turned_m d e (eqb e.next d.guess)
 

@@ -12,7 +12,7 @@ use Rattle.rv32i.specs.declared.effect.Access.TheVariants.{Load, Store}
 use Rattle.rv32i.specs.declared.effect.Effect.{Effect}
 use Rattle.rv32i.specs.declared.instruction.Instruction.{Instruction}
 use Rattle.rv32i.specs.declared.register.Register.{Register}
-use Rattle.sequential.specs.Sequential.{then}
+use Rattle.sequential.specs.Sequential.{and_then}
 use Rattle.clocking.specs.Counting.{is_wait}
 use Rattle.clocking.specs.Laws.{is_held, m_is_refused, m_request, m_asks, m_writes, value_with, m_value, effect_of, result_of, next_of, leads_elsewhere, x_is_misguessed, x_next, x_writes, is_load, x_loads, x_value, w_writes, w_value, is_missing, lacks, lacks_any, is_short, forwarded, operand_of, read_for, in_x}
 use Rattle.clocking.specs.Ports.{Asked}
@@ -115,7 +115,7 @@ turned_flow : (e : Executed) (b : Bool) → (turned e b).flow ≡ execute_flow M
 turned_flow e true = refl
 turned_flow e false = refl
 
-checked_flow : (d : Decoded) (o : Result Effect Cause) → (checked d.address d.guess (then o (λ e. Ok (ran d e)))).flow ≡ execute_flow Moves true (leads_elsewhere o d.guess)
+checked_flow : (d : Decoded) (o : Result Effect Cause) → (checked d.address d.guess (and_then o (λ e. Ok (ran d e)))).flow ≡ execute_flow Moves true (leads_elsewhere o d.guess)
 checked_flow d (Err c) = refl
 checked_flow d (Ok e) = turned_flow (ran d e) (eqb e.next d.guess)
 
@@ -142,7 +142,7 @@ turned_gives d e r true = ap (λ z. cond (gives d.rd r) (Some z) None) (early_by
 turned_gives d e r false = ap (λ z. cond (gives d.rd r) (Some z) None) (early_by (access d.instruction) e.result)
 
 checked_gives : (d : Decoded) (r : Register) (o : Result Effect Cause)
-    → from_x (checked d.address d.guess (then o (λ e. Ok (ran d e)))).m r
+    → from_x (checked d.address d.guess (and_then o (λ e. Ok (ran d e)))).m r
     ≡ cond (is_ok o && gives d.rd r) (Some (cond (is_load (access d.instruction)) None (Some (result_of o)))) None
 checked_gives d r (Err c) = refl
 checked_gives d r (Ok e) = turned_gives d e r (eqb e.next d.guess)
@@ -167,7 +167,7 @@ turned_to e true i = absurd (false≢true i)
 turned_to e false i = refl
 
 checked_to : (d : Decoded) (o : Result Effect Cause) → leads_elsewhere o d.guess ≡ true
-    → (checked d.address d.guess (then o (λ e. Ok (ran d e)))).redirect ≡ Some (next_of o)
+    → (checked d.address d.guess (and_then o (λ e. Ok (ran d e)))).redirect ≡ Some (next_of o)
 checked_to d (Err c) i = absurd (false≢true i)
 checked_to d (Ok e) i = turned_to (ran d e) (eqb e.next d.guess) i
 

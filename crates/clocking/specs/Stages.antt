@@ -7,14 +7,14 @@ use Rattle.memory.specs.declared.Answer.TheVariants.{Word}
 use Rattle.memory.specs.declared.Unserved.TheVariants.{Wait}
 use Rattle.rv32i.specs.Effects.{following, first_source, second_source, destination, executed, access, request, loaded}
 use Rattle.rv32i.specs.declared.cause.Cause.{Cause}
-use Rattle.rv32i.specs.declared.cause.Cause.TheVariants.{JumpMisaligned, FetchOutside}
+use Rattle.rv32i.specs.declared.cause.Cause.TheVariants.{InstructionMisaligned, InstructionAccessFault}
 use Rattle.rv32i.specs.declared.effect.Access.{Access}
 use Rattle.rv32i.specs.declared.effect.Access.TheVariants.{Load}
 use Rattle.rv32i.specs.declared.effect.Effect.{Effect}
 use Rattle.rv32i.specs.declared.instruction.Instruction.{Instruction}
 use Rattle.rv32i.specs.declared.register.Register.{Register}
 use Rattle.rv32i.specs.declared.registers.Registers.{Registers}
-use Rattle.sequential.specs.Sequential.{then}
+use Rattle.sequential.specs.Sequential.{and_then}
 use Rattle.clocking.specs.declared.latch.Fetched.{Fetched}
 use Rattle.clocking.specs.declared.latch.Decoded.{Decoded}
 use Rattle.clocking.specs.declared.latch.Executed.{Executed}
@@ -85,7 +85,7 @@ ran d e = record {
 }
 
 abbrev pub execute : Decoded → Result Executed Cause
-execute d = then (executed d.instruction d.address d.a d.b) (λ e. Ok (ran d e))
+execute d = and_then (executed d.instruction d.address d.a d.b) (λ e. Ok (ran d e))
 
 -- whether its true next address is the guessed one
 abbrev pub turned : Executed → Bool → ExecuteOut
@@ -200,7 +200,7 @@ pub record FetchOut : Type 0 where
 
 -- what is asked of an instruction memory of that size for f, or the cause that f has, by what the decode stage did with D
 abbrev pub fetching : ℕ → ℕ → Flow → Result (Option Request) Cause
-fetching size f Moves = cond (f % 4 == 0) (cond (nat_lt f size) (Ok (Some (Read f))) (Err FetchOutside)) (Err JumpMisaligned)
+fetching size f Moves = cond (f % 4 == 0) (cond (nat_lt f size) (Ok (Some (Read f))) (Err InstructionAccessFault)) (Err InstructionMisaligned)
 fetching size f flow = Ok None
 
 abbrev pub redirected : ℕ → Option ℕ → ℕ

@@ -6,7 +6,7 @@ use Rattle.base.specs.Refusals.{Says}
 use Rattle.base.specs.declared.failure.Failure.{Failure}
 use Rattle.base.specs.declared.refusal.Refusal.{Refusal}
 use Rattle.memory.specs.declared.flat.Flat.{Flat}
-use Rattle.memory.specs.Flat.{flat_fits, flat_means}
+use Rattle.memory.specs.Flat.{flat_fits, flat_bytes, flat_size, flat_means}
 use Rattle.memory.specs.Meaning.{View, Meaning}
 use Rattle.setup.specs.declared.choice.StackChoice.{StackChoice}
 use Rattle.dispatch.specs.declared.layer.Layer.{Layer}
@@ -46,8 +46,8 @@ pub record Built (bytes : Vec ℕ Global) (choice : StackChoice) (s : Layer (Lay
   pub flat : Flat
   pub bottom : Layer Flat
   pub middle : Layer (Layer Flat)
-  pub holds : flat.bytes ≡ bytes
-  pub whole : flat.size ≡ vec_len bytes
+  pub holds : flat_bytes flat ≡ bytes
+  pub whole : flat_size flat ≡ vec_len bytes
   pub lowest : Starts flat choice.bottom bottom
   pub next : Starts bottom choice.middle middle
   pub highest : Starts middle choice.top s

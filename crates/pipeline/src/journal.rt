@@ -1,6 +1,6 @@
 //! The two logs that a machine's clocks go to.
 ghost use Rattle.std.specs.Prelude.{◌≡◌, [], ◌∷◌, length, false};
-ghost use Rattle.base.specs.Logs.{room};
+ghost use Rattle.base.specs.Logs.{room, slots_of};
 ghost use Rattle.pipeline.specs.Calls.{empty_logs, is_full, logged};
 ghost use Rattle.pipeline.specs.Logged.{logs, SameSlots, Adds};
 
@@ -25,8 +25,8 @@ impl<'a> Journal<'a> {
         ensures empty { logs result ≡ empty_logs retired_slots.old clock_slots.old }
         ensures rooms { (room result.retirements ≡ length retired_slots.old)
             × (room result.clocks ≡ length clock_slots.old) }
-        ensures lent { (result.retirements.slots.ghost_name ≡ retired_slots.entry.ghost_name)
-            × (result.clocks.slots.ghost_name ≡ clock_slots.entry.ghost_name) }
+        ensures lent { (slots_of result.retirements ≡ retired_slots.entry.ghost_name)
+            × (slots_of result.clocks ≡ clock_slots.entry.ghost_name) }
     {
         Journal {
             retirements: Log::new(retired_slots),

@@ -2,7 +2,7 @@
 use Rattle.std.specs.Prelude.{◌≡◌, ℕ, ◌%◌, ◌==◌, nat_lt, if◌then◌else◌, Ok, Err, Option, Result}
 use Rattle.memory.specs.Meaning.{Meaning, Reply}
 use Rattle.rv32i.specs.declared.cause.Cause.{Cause}
-use Rattle.rv32i.specs.declared.cause.Cause.TheVariants.{JumpMisaligned, FetchOutside}
+use Rattle.rv32i.specs.declared.cause.Cause.TheVariants.{InstructionMisaligned, InstructionAccessFault}
 use Rattle.clocking.specs.Counting.{has_fetched, is_wait}
 use Rattle.clocking.specs.Ports.{Table, Asked, arrival}
 use Rattle.clocking.specs.Stages.{FetchOut, data_request, sent, data_stage, fetching, fetch_stage}
@@ -24,7 +24,7 @@ pub record DataDone {D : Type 0} (words : Meaning D) (m : Latch Executed) (old n
 -- whether a word can be fetched at f, or the cause that f has, in a memory of that size
 abbrev pub fetchable : ℕ → ℕ → Result Unit Cause
 fetchable size f =
-    if f % 4 == 0 then (if nat_lt f size then Ok tt else Err FetchOutside) else Err JumpMisaligned
+    if f % 4 == 0 then (if nat_lt f size then Ok tt else Err InstructionAccessFault) else Err InstructionMisaligned
 
 -- the fetch stage at f with d in D: the memory old is then new, and went is where fetching goes on and what is in D
 pub record FetchDone {P I : Type 0} (table : Table P) (text : Meaning I) (p : P) (f : ℕ)

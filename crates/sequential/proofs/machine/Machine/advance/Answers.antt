@@ -60,12 +60,12 @@ returns-in_err-value g c =
     let ran : Gives (executed i m.address (first_operand s i) (second_operand s i)) (Ok e) = search rules in
     let b : c.read-b.result ≡ second_operand s i = search rules in
     let came = rw (c.access.ensures, b) at c.in_err-value.ensures in
-    let t = transfer_err bytes m.«data» c.transfer.new.data _ _ came.0 in
+    let t = transfer_err bytes m.data_memory c.transfer.new.data_memory _ _ came.0 in
     record {
       does =
           stops (world_of text bytes m) s _ _ _
           (at_transfer _ _ _ c.in_ok-word.ensures.word _ c.in_ok-instruction.ensures _ ran _ t.0)
-          (p.1 ∙ rw p.2) (λ k. record { address = m.address; registers = m.registers; bytes = t.1 k });
+          (p.1 ∙ rw p.2) (λ k. record { address = m.address; registers = m.registers; data_memory = t.1 k });
       world = same_world text bytes _ _ _ _ c.fetch.ensures.same came.1;
       stopped = refl;
     }
@@ -83,13 +83,13 @@ returns g c =
     let came = rw (c.access.ensures, b) at c.in_ok-value.ensures in
     let kept : c.new.result ≡ retired m.address c.in_ok-word.word (destination i) c.in_ok-value.value = search rules in
     let wrote : c.write.new.self ≡ written m.registers (destination i) c.in_ok-value.value = search rules in
-    let t = transfer_ok bytes m.«data» c.transfer.new.data _ _ came.0 in
+    let t = transfer_ok bytes m.data_memory c.transfer.new.data_memory _ _ came.0 in
     record {
       does =
           retires (world_of text bytes m) s _ _ _
           (at_end _ _ _ c.in_ok-word.ensures.word _ c.in_ok-instruction.ensures _ ran _ t)
           (ap (λ (r : Retired). Ok (record { retired = r; outcome = e.outcome })) kept)
-          (λ k. record { address = e.next; registers = wrote k; bytes = bytes.byte c.transfer.new.data });
+          (λ k. record { address = e.next; registers = wrote k; data_memory = bytes.byte c.transfer.new.data_memory });
       world = same_world text bytes _ _ _ _ c.fetch.ensures.same came.1;
       stopped = refl;
     }

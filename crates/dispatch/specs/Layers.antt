@@ -6,7 +6,7 @@ use Rattle.base.specs.declared.refusal.Refusal.{Refusal}
 use Rattle.memory.specs.Meaning.{Reply}
 use Rattle.wait_states.specs.declared.WaitStates.{WaitStates}
 use Rattle.write_buffer.specs.declared.WriteBuffer.{WriteBuffer}
-use Rattle.write_buffer.specs.PostedWrites.{pending}
+use Rattle.write_buffer.specs.PostedWrites.{writes_in}
 use Rattle.memory.specs.Meaning.{View, Meaning}
 use Rattle.wait_states.specs.WaitStates.{wait_fits, wait_view, wait_means}
 use Rattle.write_buffer.specs.WriteBuffer.{buffer_fits, buffer_view, buffer_means}
@@ -71,7 +71,7 @@ module _ {M : Type 0} where
   -- a write buffer over a memory, that holds nothing
   pub record BufferOver (lower : M) (b : WriteBuffer M) : Type 0 where
     pub below : b.below ≡ lower
-    pub held : pending b.posted ≡ []
+    pub held : writes_in b.posted ≡ []
 
   -- the chosen layer over a memory, as it starts
   abbrev pub Starts : M → Option LayerChoice → Layer M → Type 0

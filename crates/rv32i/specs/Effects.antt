@@ -191,27 +191,27 @@ lanes_of HalfStored x = record { b0 = (x % 4 == 0); b1 = (x % 4 == 0); b2 = (x %
 lanes_of WordStored x = record { b0 = true; b1 = true; b2 = true; b3 = true }
 
 -- aligned to its width, and below the size of the data memory
-abbrev pub accepted : ℕ → ℕ → ℕ → Cause → Cause → Request → Result (Option Request) Cause
-accepted size width x misaligned fault q =
+abbrev pub checked_request : ℕ → ℕ → ℕ → Cause → Cause → Request → Result (Option Request) Cause
+checked_request size width x misaligned fault q =
     if x % width == 0 then (if nat_lt x size then Ok (Some q) else Err fault) else Err misaligned
 
 -- what an instruction asks of a data memory of that size, with the result x of execution and the operand b
 unfoldable pub request : ℕ → Option Access → ℕ → ℕ → Result (Option Request) Cause
 request size None x b = Ok None
-request size (Some (Loads k)) x b = accepted size (load_width k) x LoadMisaligned LoadAccessFault (Read (word_address x))
+request size (Some (Loads k)) x b = checked_request size (load_width k) x LoadMisaligned LoadAccessFault (Read (word_address x))
 request size (Some (Stores k)) x b =
-    accepted size (store_width k) x StoreMisaligned StoreAccessFault (Write (word_address x) (b * 2 ^ (8 * (x % 4)) % 2 ^ 32) (lanes_of k x))
+    checked_request size (store_width k) x StoreMisaligned StoreAccessFault (Write (word_address x) (b * 2 ^ (8 * (x % 4)) % 2 ^ 32) (lanes_of k x))
 
 -- what a load makes of a word whose lowest byte is the first that it reads
-abbrev pub extracted : LoadKind → ℕ → ℕ
-extracted Byte w = bits_of (signed (2 ^ 7) (w % 2 ^ 8))
-extracted Half w = bits_of (signed (2 ^ 15) (w % 2 ^ 16))
-extracted Word w = w
-extracted ByteUnsigned w = w % 2 ^ 8
-extracted HalfUnsigned w = w % 2 ^ 16
+abbrev pub extract : LoadKind → ℕ → ℕ
+extract Byte w = bits_of (signed (2 ^ 7) (w % 2 ^ 8))
+extract Half w = bits_of (signed (2 ^ 15) (w % 2 ^ 16))
+extract Word w = w
+extract ByteUnsigned w = w % 2 ^ 8
+extract HalfUnsigned w = w % 2 ^ 16
 
 -- what an instruction with the result x makes of the word that holds the byte at x; all but loads keep the result
 unfoldable pub loaded : Option Access → ℕ → ℕ → ℕ
 loaded None x w = x
-loaded (Some (Loads k)) x w = extracted k (w / 2 ^ (8 * (x % 4)))
+loaded (Some (Loads k)) x w = extract k (w / 2 ^ (8 * (x % 4)))
 loaded (Some (Stores k)) x w = x

@@ -2,7 +2,7 @@
 //! what it makes of the answer.
 ghost use Rattle.std.specs.Prelude.{◌≡◌, ◌<◌};
 ghost use Rattle.rv32i.specs.Causes.{Gives};
-ghost use Rattle.rv32i.specs.Effects.{first_source, second_source, destination, arithmetic, immediate_op, shift_op, holds, goes_on, jumps, branches, access, lanes_of, width, address_misaligned, access_fault, request, extracted, loaded};
+ghost use Rattle.rv32i.specs.Effects.{first_source, second_source, destination, arithmetic, immediate_op, shift_op, holds, goes_on, jumps, branches, access, lanes_of, width, address_misaligned, access_fault, request, extract, loaded};
 
 use crate::cause::Cause;
 use crate::instruction::{
@@ -327,7 +327,7 @@ pub fn request(
 /// What a load makes of a word whose lowest byte is the first that it reads.
 #[inline(always)]
 fn extract(kind: LoadKind, bytes: u32) -> u32
-    ensures { result ≡ extracted kind bytes }
+    ensures { result ≡ extract kind bytes }
 {
     match kind {
         LoadKind::Byte => (((bytes % 0x100) as u8).cast_signed() as i32).cast_unsigned(),

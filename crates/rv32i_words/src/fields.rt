@@ -1,5 +1,5 @@
 //! The six fields of a word, and the immediates joined from them.
-ghost use Rattle.std.specs.Prelude.{◌≡◌, ◌+◌, ◌-◌, ◌*◌, ◌/◌, ◌%◌, ◌^◌, ◌<◌, ◌≤◌};
+ghost use Rattle.std.specs.Prelude.{◌≡◌, ◌/◌, ◌%◌, ◌^◌, ◌<◌};
 ghost use Rattle.rv32i.specs.Registers.{register};
 ghost use Rattle.rv32i.specs.Signs.{signed};
 ghost use Rattle.rv32i_words.specs.Fields.{rd_of, funct3_of, rs1_of, rs2_of, funct7_of, word_of};
@@ -74,8 +74,8 @@ pub(crate) fn immediate_b(word: u32) -> i32
 
 /// The J immediate: bits 31, 19 to 12, 20, 30 to 21, and a zero.
 pub(crate) fn immediate_j(word: u32) -> i32
-    ensures { result
-        ≡ signed (2 ^ 20) (j_immediate (funct3_of word) (rs1_of word) (rs2_of word) (funct7_of word)) }
+    ensures { result ≡ signed (2 ^ 20)
+        (j_immediate (funct3_of word) (rs1_of word) (rs2_of word) (funct7_of word)) }
 {
     let sign = Field::<1>::at(word, 31);
     sign.above::<8, 9>(Field::at(word, 12))

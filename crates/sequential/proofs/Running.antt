@@ -3,16 +3,16 @@ use Rattle.std.proofs.Common.{◌≡◌, ℕ, ◌+◌, ◌-◌, ◌<◌, ◌≤�
 use Rattle.std.proofs.lemmas.List.{drop-drop}
 use Rattle.rv32i.specs.declared.cause.Cause.{Cause}
 use Rattle.sequential.proofs.Stopping.{same_stop}
-use Rattle.sequential.specs.Runs.{Steps, none, more, recorded, RunsTo}
+use Rattle.sequential.specs.Runs.{Steps, none, more, records_of, RunsTo}
 use Rattle.sequential.specs.Sequential.{State, World, Step, step}
 use Rattle.sequential.specs.Stepping.{stop_at, Comes, Stepped}
 use Rattle.sequential.specs.declared.record.Retired.{Retired}
 use Rattle.sequential.specs.declared.record.Retirement.{Retirement}
 use Rattle.sequential.specs.declared.record.Stop.{Stop}
 
-recorded_more : (h : List Retirement) (r : Retirement) → recorded (h ++ r ∷ []) ≡ recorded h ++ (r.retired ∷ [])
-recorded_more [] r = refl
-recorded_more (x ∷ h) r = ap (λ (l : List Retired). x.retired ∷ l) (recorded_more h r)
+records_of_more : (h : List Retirement) (r : Retirement) → records_of (h ++ r ∷ []) ≡ records_of h ++ (r.retired ∷ [])
+records_of_more [] r = refl
+records_of_more (x ∷ h) r = ap (λ (l : List Retired). x.retired ∷ l) (records_of_more h r)
 
 pub none_taken : {R : Type 0} (before first : List R) → first ≡ drop (length before - length before) first
 none_taken before first =
@@ -31,7 +31,7 @@ module _ (world : World) where
   pub record SoFar (stopped : Option Stop) (s : State) (before : List Retired) (t : State) (after : List Retired) : Type 0 where
     pub retirements : List Retirement
     pub steps : Steps world s retirements t
-    pub logged : after ≡ before ++ recorded retirements
+    pub logged : after ≡ before ++ records_of retirements
     pub for_good : IsSome stopped → retirements ≡ []
 
   pub nothing : (stopped : Option Stop) (s : State) (before : List Retired) → SoFar stopped s before s before
@@ -55,8 +55,8 @@ module _ (world : World) where
           retirements = k.retirements ++ y.retirement ∷ [];
           steps = rw h.1 (more y k.steps e);
           logged =
-              a ∙ ap (λ (l : List Retired). l ++ (r.retired ∷ [])) k.logged ∙ append_assoc before (recorded k.retirements) (r.retired ∷ [])
-              ∙ ap (λ (l : List Retired). before ++ l) (sym (recorded_more k.retirements r) ∙ ap (λ (x : Retirement). recorded (k.retirements ++ x ∷ [])) h.0);
+              a ∙ ap (λ (l : List Retired). l ++ (r.retired ∷ [])) k.logged ∙ append_assoc before (records_of k.retirements) (r.retired ∷ [])
+              ∙ ap (λ (l : List Retired). before ++ l) (sym (records_of_more k.retirements r) ∙ ap (λ (x : Retirement). records_of (k.retirements ++ x ∷ [])) h.0);
           for_good = λ some. cc;
         },
         h.2,

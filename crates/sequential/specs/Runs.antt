@@ -1,12 +1,7 @@
 -- Steps in a row. Assumes nothing.
 use Rattle.std.specs.Prelude.{◌≡◌, ℕ, ◌<◌, ◌≤◌, List, [], ◌∷◌, ◌++◌, map, length, Some, None, Ok, IsSome, Option}
-use Rattle.base.specs.Logs.{records, room}
-use Rattle.base.specs.declared.log.Log.{Log}
-use Rattle.memory.specs.Meaning.{View}
 use Rattle.rv32i.specs.Causes.{cause_number, CauseSays}
 use Rattle.sequential.specs.Sequential.{State, World, Step, step}
-use Rattle.sequential.specs.Stepping.{world_of, state_of}
-use Rattle.sequential.specs.declared.machine.Machine.{Machine}
 use Rattle.sequential.specs.declared.record.Retired.{Retired}
 use Rattle.sequential.specs.declared.record.Retirement.{Retirement}
 use Rattle.sequential.specs.declared.record.Stop.{Stop}
@@ -36,19 +31,13 @@ stopped_after before None = before
 stopped_after before (Some stop) = Some stop
 
 -- the records of retirements
-abbrev pub recorded : List Retirement → List Retired
-recorded = map (λ r. r.retired)
+abbrev pub records_of : List Retirement → List Retired
+records_of = map (λ r. r.retired)
 
 -- a run from s to t into a log with that room and those records before; where the machine had stopped, nothing retires
 pub record RunsTo (world : World) (stopped : Option Stop) (s : State) (room : ℕ) (before : List Retired) (r : Option Stop) (t : State) (after : List Retired) : Type 0 where
   pub retirements : List Retirement
   pub steps : Steps world s retirements t
-  pub logged : after ≡ before ++ recorded retirements
+  pub logged : after ≡ before ++ records_of retirements
   pub for_good : IsSome stopped → retirements ≡ []
   pub ends : RunEnds world stopped t room (length after) r
-
--- what a run does to a machine and a log
-abbrev pub RunsFrom : {I D : Type 0} → View I → View D → Machine I D → Log Retired → Option Stop → Machine I D → Log Retired → Type 0
-RunsFrom instructions data_memory m before r n after =
-    RunsTo (world_of instructions data_memory m) m.stopped (state_of data_memory m) (room before) (records before) r
-    (state_of data_memory n) (records after)

@@ -1,6 +1,8 @@
--- What a call of step does to a machine, which may have stopped. Assumes nothing.
+-- What a call of step or run does to a machine, which may have stopped. Assumes nothing.
 use Rattle.std.specs.Prelude.{◌≡◌, ℕ, Some, None, Ok, Err, Option, Result}
+use Rattle.base.specs.Logs.{records, room}
 use Rattle.base.specs.Refusals.{Answers}
+use Rattle.base.specs.declared.log.Log.{Log}
 use Rattle.memory.specs.Meaning.{View}
 use Rattle.base.specs.declared.bus.Request.{Request}
 use Rattle.memory.specs.Meaning.{Reply}
@@ -10,8 +12,10 @@ use Rattle.rv32i.specs.Effects.{loaded}
 use Rattle.rv32i.specs.declared.cause.Cause.{Cause}
 use Rattle.rv32i.specs.declared.cause.Cause.TheVariants.{InstructionAccessFault}
 use Rattle.rv32i.specs.declared.effect.Access.{Access}
+use Rattle.sequential.specs.Runs.{RunsTo}
 use Rattle.sequential.specs.Sequential.{State, World, Step, Transfer, transfer_of, step}
 use Rattle.sequential.specs.declared.machine.Machine.{Machine}
+use Rattle.sequential.specs.declared.record.Retired.{Retired}
 use Rattle.sequential.specs.declared.record.Retirement.{Retirement}
 use Rattle.sequential.specs.declared.record.Stop.{Stop}
 
@@ -89,3 +93,8 @@ module _ {I D : Type 0} (instructions : View I) (data_memory : View D) where
 
   abbrev pub SameWorld : Machine I D → Machine I D → Type 0
   SameWorld m n = world_of instructions data_memory n ≡ world_of instructions data_memory m
+
+  abbrev pub RunsFrom : Machine I D → Log Retired → Option Stop → Machine I D → Log Retired → Type 0
+  RunsFrom m before r n after =
+      RunsTo (world_of instructions data_memory m) m.stopped (state_of data_memory m) (room before) (records before) r
+      (state_of data_memory n) (records after)

@@ -1,5 +1,5 @@
 //! The machine that runs.
-ghost use Rattle.std.specs.Prelude.{◌≡◌, ◌%◌, ◌<◌, ◌≤◌, replicate, None, IsSome};
+ghost use Rattle.std.specs.Prelude.{◌≡◌, ◌%◌, replicate, None, IsSome};
 ghost use Rattle.memory.specs.Meaning.{Same, ByteRead};
 ghost use Rattle.rv32i.specs.Causes.{Gives};
 ghost use Rattle.rv32i.specs.Registers.{RegisterRead};
@@ -31,7 +31,8 @@ impl<I: Memory, D: Memory> Machine<I, D> {
     pub fn new(start: u32, instructions: I, data_memory: D) -> Machine<I, D>
         ensures address { result.address ≡ start }
         ensures registers { result.registers ≡ replicate 32 0 }
-        ensures memories { (result.instructions ≡ instructions) × (result.data_memory ≡ data_memory) }
+        ensures memories { (result.instructions ≡ instructions)
+            × (result.data_memory ≡ data_memory) }
         ensures stopped { result.stopped ≡ None }
     {
         Machine {
@@ -87,8 +88,8 @@ fn transfer<D: Memory>(
     b: u32,
 ) -> Result<u32, Cause>
     ensures { let view = D.Memory.means.view in
-        Transferred view data_memory.old (request (view.size data_memory.old) access res b) access res
-        result data_memory.new }
+        Transferred view data_memory.old (request (view.size data_memory.old) access res b)
+        access res result data_memory.new }
 {
     match request(data_memory.size(), access, res, b)? {
         None => Ok(res),
@@ -102,7 +103,8 @@ fn transfer<D: Memory>(
 impl<I: Memory, D: Memory> Machine<I, D> {
     /// Does the instruction at the machine's address, unless there is a cause to stop.
     fn advance(&mut self) -> Result<Retirement, Cause>
-        ensures does { AdvancesFrom I.Memory.means.view D.Memory.means.view self.old result self.new }
+        ensures does { AdvancesFrom I.Memory.means.view D.Memory.means.view self.old result
+            self.new }
         ensures world { SameWorld I.Memory.means.view D.Memory.means.view self.old self.new }
         ensures stopped { self.new.stopped ≡ self.old.stopped }
     {

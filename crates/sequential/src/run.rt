@@ -1,8 +1,8 @@
 //! Steps in a row.
 ghost use Rattle.std.specs.Prelude.{◌≡◌, ◌-◌, length, drop, IsSome};
 ghost use Rattle.base.specs.Logs.{records, spare, room, slots_of};
-ghost use Rattle.sequential.specs.Runs.{RunsFrom, stopped_after};
-ghost use Rattle.sequential.specs.Stepping.{SameWorld};
+ghost use Rattle.sequential.specs.Runs.{stopped_after};
+ghost use Rattle.sequential.specs.Stepping.{RunsFrom, SameWorld};
 
 use crate::machine::Machine;
 use crate::record::{Retired, Stop};

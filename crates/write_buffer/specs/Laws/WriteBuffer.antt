@@ -1,5 +1,5 @@
 -- A write buffer keeps the rules, if the memory below does. Assumes nothing.
-use Rattle.std.specs.Prelude.{◌≡◌, ℕ, ◌+◌, ◌*◌, ◌%◌, ◌<◌, ◌≤◌, Bool, true, false, cond, List, [], ◌∷◌, length, drop, nat_le, refl, Ok, Err}
+use Rattle.std.specs.Prelude.{◌≡◌, ℕ, ◌+◌, ◌*◌, ◌%◌, ◌<◌, ◌≤◌, Bool, true, false, if◌then◌else◌, List, [], ◌∷◌, length, drop, nat_le, refl, Ok, Err}
 use Rattle.std.proofs.Common.{sym, ap, ◌∙◌, inl, inr, arith}
 use Rattle.std.proofs.lemmas.List.Sums.{fold_push}
 use Rattle.std.proofs.lemmas.Bool.{leb-true, lt-leb, cond-true, cond-false, cases_Bool, cond_both, both_ways}
@@ -20,7 +20,7 @@ use Rattle.memory.proofs.Rules.{same_as, fixed, layer_within, layer_aligned, lay
 over_same : {s t y z : ℕ} {ps qs : List PostedWrite} (x : ℕ) → s ≡ t → ps ≡ qs → y ≡ z → over s ps x y ≡ over t qs x z
 over_same x es eps ey = λ i. over (es i) (eps i) x (ey i)
 
-byte_fits : (b : Bool) (w y : ℕ) → y < 256 → cond b (w % 256) y < 256
+byte_fits : (b : Bool) (w y : ℕ) → y < 256 → (if b then w % 256 else y) < 256
 byte_fits true w y h = omega arith
 byte_fits false w y h = h
 

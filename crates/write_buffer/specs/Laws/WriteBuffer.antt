@@ -14,7 +14,7 @@ use Rattle.memory.specs.declared.Unserved.TheVariants.{Wait, Outside}
 use Rattle.write_buffer.specs.declared.posted.PostedWrite.{PostedWrite}
 use Rattle.write_buffer.specs.PostedWrites.{oldest, overlay, over}
 use Rattle.memory.specs.Meaning.{View, Meaning, Lawful, Same, Changed, Served, request_address}
-use Rattle.write_buffer.specs.WriteBuffer.{WriteBuffer, request_of, writes_after, read_waits, writes_of, fits, buffer_waits, buffer_view, buffer_means, Takes, Sends, InTurn, Accepts, BufferServes, Idles}
+use Rattle.write_buffer.specs.WriteBuffer.{WriteBuffer, request_of, writes_after, read_waits, writes_of, buffer_is_sound, buffer_waits, buffer_view, buffer_means, Takes, Sends, InTurn, Accepts, BufferServes, Idles}
 use Rattle.memory.proofs.Rules.{same_as, fixed, layer_within, layer_aligned, layer_patient, layer_fewer}
 
 over_same : {s t y z : ℕ} {ps qs : List PostedWrite} (x : ℕ) → s ≡ t → ps ≡ qs → y ≡ z → over s ps x y ≡ over t qs x z
@@ -117,7 +117,7 @@ module _ {M : Type 0} {m : Meaning M} (laws : Lawful m) where
   bare b e x = over_same x refl e refl
 
   fewer : (b c : WriteBuffer M) (q : Request) → within (top.size b) (request_address q) ≡ true → low.longest c.below ≡ low.longest b.below → buffer_waits low c.below (writes_of c) q < buffer_waits low b.below (writes_of b) q → top.waits c q < top.waits b q
-  fewer b c q e l h = layer_fewer (fits low b) (fits low c) _ _ (layer_within _ _ (request_address q) e).0 (cc) h
+  fewer b c q e l h = layer_fewer (buffer_is_sound low b) (buffer_is_sound low c) _ _ (layer_within _ _ (request_address q) e).0 (cc) h
 
   passes : (b c : WriteBuffer M) (a : ℕ) (r : Reply) → within (top.size b) a ≡ true → writes_of b ≡ [] → writes_of c ≡ writes_of b → Served low b.below (Read a) r c.below → Served top b (Read a) r c
   passes b c a (Err Wait) e k j h = (e, fewer b c (Read a) e h.2.longest (rw (j, k) h.1), same b c h.2 j)

@@ -7,7 +7,7 @@ use Rattle.memory.specs.Meaning.{Meaning, Reply}
 use Rattle.rv32i.specs.Causes.{Gives}
 use Rattle.rv32i.specs.Effects.{following}
 use Rattle.rv32i.specs.declared.cause.Cause.{Cause}
-use Rattle.rv32i.specs.declared.cause.Cause.TheVariants.{JumpMisaligned, FetchOutside}
+use Rattle.rv32i.specs.declared.cause.Cause.TheVariants.{InstructionMisaligned, InstructionAccessFault}
 use Rattle.rv32i.proofs.Given.{given}
 use Rattle.clocking.specs.Counting.{is_wait}
 use Rattle.clocking.specs.Ports.{TableOf, arrival}
@@ -25,8 +25,8 @@ abbrev asked_if_so : ℕ → Result Unit Cause → Result (Option Request) Cause
 asked_if_so f (Ok u) = Ok (Some (Read f))
 asked_if_so f (Err c) = Err c
 
-asked_so : (f : ℕ) (a b : Bool) → cond a (cond b (Ok (Some (Read f))) (Err FetchOutside)) (Err JumpMisaligned)
-    ≡ asked_if_so f (if a then (if b then Ok tt else Err FetchOutside) else Err JumpMisaligned)
+asked_so : (f : ℕ) (a b : Bool) → cond a (cond b (Ok (Some (Read f))) (Err InstructionAccessFault)) (Err InstructionMisaligned)
+    ≡ asked_if_so f (if a then (if b then Ok tt else Err InstructionAccessFault) else Err InstructionMisaligned)
 asked_so f true true = refl
 asked_so f true false = refl
 asked_so f false b = refl

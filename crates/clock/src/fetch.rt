@@ -37,9 +37,9 @@ fn fetchable(size: u32, f: u32) -> Result<(), Cause>
     ensures { Gives (fetchable size f) result }
 {
     if f % 4 != 0 {
-        Err(Cause::JumpMisaligned)
+        Err(Cause::InstructionMisaligned)
     } else if f >= size {
-        Err(Cause::FetchOutside)
+        Err(Cause::InstructionAccessFault)
     } else {
         Ok(())
     }

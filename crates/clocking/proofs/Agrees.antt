@@ -53,7 +53,7 @@ module _ {P I D : Type 0} (table : TableOf P) (instructions : Meaning I) (words 
   wd = words.view.longest first.«data»
 
   abbrev fixed : Memories
-  fixed = record { data_size = world.data_size; text_size = world.text_size; data_longest = wd; text_longest = wi }
+  fixed = record { data_size = world.data_size; text_size = world.instructions_size; data_longest = wd; text_longest = wi }
 
   abbrev waits : Core P I D → Waits
   waits m = record { of_data = words.view.waits m.«data»; of_text = instructions.view.waits m.instructions }
@@ -86,8 +86,8 @@ module _ {P I D : Type 0} (table : TableOf P) (instructions : Meaning I) (words 
     bytes : BytesSo world reached m.latches.w (words.view.byte m.«data»)
     live : LiveIf m.stopped h reached m
     data_size : words.view.size m.«data» ≡ world.data_size
-    text_size : instructions.view.size m.instructions ≡ world.text_size
-    text : instructions.view.byte m.instructions ≡ world.text
+    text_size : instructions.view.size m.instructions ≡ world.instructions_size
+    text : instructions.view.byte m.instructions ≡ world.instructions
     data_longest : words.view.longest m.«data» ≡ wd
     text_longest : instructions.view.longest m.instructions ≡ wi
     paced : Paced bound first_bound h
@@ -142,14 +142,14 @@ module _ {P I D : Type 0} (table : TableOf P) (instructions : Meaning I) (words 
       }
 
   known : (h : List Event) (m : Core P I D) (e : Event) (n : Core P I D) → Kept h m → Moved table instructions words m e n
-      → Goes world.data_size world.text_size (write_back m.registers m.latches.w) m e n
+      → Goes world.data_size world.instructions_size (write_back m.registers m.latches.w) m e n
   known h m e n k w =
-      subst (λ (z : ℕ). Goes z world.text_size (write_back m.registers m.latches.w) m e n) k.data_size
+      subst (λ (z : ℕ). Goes z world.instructions_size (write_back m.registers m.latches.w) m e n) k.data_size
       (subst (λ (z : ℕ). Goes (words.view.size m.«data») z (write_back m.registers m.latches.w) m e n) k.text_size
       (subst (λ (z : Registers). Goes (words.view.size m.«data») (instructions.view.size m.instructions) z m e n) w.registers (goes m e n w)))
 
   module _ (h : List Event) (m : Core P I D) (e : Event) (n : Core P I D) (k : Kept h m) (l : Live h k.reached m) (flows : Flows m.latches.w)
-      (w : Goes world.data_size world.text_size (write_back m.registers m.latches.w) m e n) where
+      (w : Goes world.data_size world.instructions_size (write_back m.registers m.latches.w) m e n) where
     abbrev g : Registers
     g = write_back m.registers m.latches.w
 
@@ -157,13 +157,13 @@ module _ {P I D : Type 0} (table : TableOf P) (instructions : Meaning I) (words 
     arrives = arrival table n.predictor m.latches.f w.answer
 
     abbrev next : Latches
-    next = latches_after world.data_size world.text_size g m.latches w.reply arrives
+    next = latches_after world.data_size world.instructions_size g m.latches w.reply arrives
 
     onward : (t : State) × Retires world k.reached m.latches.w t × Chain world t (words.view.byte n.«data») g next
     onward =
         clock_keeps world k.reached (words.view.byte m.«data») (words.view.byte n.«data») (instructions.view.byte n.instructions) m.registers m.latches w.reply w.answer
         arrives l.chain flows w.data_served
-        (subst (λ (z : ℕ → ℕ). Bytes world.text_size (bus_request (plans world.data_size world.text_size g m.latches w.reply)) w.answer z (instructions.view.byte n.instructions)) k.text w.text_served)
+        (subst (λ (z : ℕ → ℕ). Bytes world.instructions_size (bus_request (plans world.data_size world.instructions_size g m.latches w.reply)) w.answer z (instructions.view.byte n.instructions)) k.text w.text_served)
         (arrives_so table n.predictor m.latches.f w.answer)
 
     abbrev clock : Clock table fixed
@@ -207,7 +207,7 @@ module _ {P I D : Type 0} (table : TableOf P) (instructions : Meaning I) (words 
     accounted_next : m.stopped ≡ None → m.counts.clocks < 4294967295 → Accounted table instructions words first (h ++ e ∷ []) n
     accounted_next runs spent =
         let a = k.accounted in
-        let b = clock_balance world.data_size world.text_size g m.latches w.reply arrives in
+        let b = clock_balance world.data_size world.instructions_size g m.latches w.reply arrives in
         let c = dropped_most m.latches (completes world.data_size m.latches w.reply).flow (executes world.data_size m.latches w.reply).flow in
         let o = retires_count m.latches.w flows in
         let d = m.counts.ok.0 in
@@ -236,7 +236,7 @@ module _ {P I D : Type 0} (table : TableOf P) (instructions : Meaning I) (words 
       data_size = w.data_size;
       text_size = w.text_size;
       text =
-          text_kept world.text_size m.latches.f (decodes world.data_size g m.latches w.reply).flow w.answer (instructions.view.byte m.instructions)
+          text_kept world.instructions_size m.latches.f (decodes world.data_size g m.latches w.reply).flow w.answer (instructions.view.byte m.instructions)
           (instructions.view.byte n.instructions) w.text_served
           ∙ k.text;
       data_longest = w.data_longest ∙ k.data_longest;

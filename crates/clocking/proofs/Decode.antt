@@ -2,7 +2,7 @@
 use Rattle.std.proofs.Common.{◌≡◌, ℕ, Some, Ok, Err, Option, Result, sym, refl, ap, ◌∙◌}
 use Rattle.rv32i.specs.declared.cause.Cause.{Cause}
 use Rattle.rv32i.specs.declared.register.Register.{Register}
-use Rattle.sequential.specs.Sequential.{State, World, then, fetch}
+use Rattle.sequential.specs.Sequential.{State, World, and_then, fetch}
 use Rattle.clocking.specs.declared.latch.Fetched.{Fetched}
 use Rattle.clocking.specs.declared.latch.Decoded.{Decoded}
 use Rattle.clocking.specs.declared.latch.Latch.{Latch}
@@ -26,7 +26,7 @@ SourcedRead flow f r = Unit {0}
 
 module _ (world : World) where
   abbrev fetch_at : State → Result ℕ Cause
-  fetch_at s = fetch world.text_size world.text s.address
+  fetch_at s = fetch world.instructions_size world.instructions s.address
 
   -- what the decode stage leaves: D has moved on, or stays, or is dropped
   abbrev pub Rests : Flow → Option ℕ → Reach → Latch Fetched → Reach → Type 0
@@ -44,7 +44,7 @@ module _ (world : World) where
     pub here : f.address ≡ s.address
     pub issues : f.issued ≡ issued f.word
 
-  word_by : (o : Result ℕ Cause) (f : Fetched) (a : ℕ) → Ok f ≡ then o (λ w. Ok (record { address = a; word = w; issued = issued w; guess = f.guess }))
+  word_by : (o : Result ℕ Cause) (f : Fetched) (a : ℕ) → Ok f ≡ and_then o (λ w. Ok (record { address = a; word = w; issued = issued w; guess = f.guess }))
       → (o ≡ Ok f.word) × (f.address ≡ a) × (f.issued ≡ issued f.word)
   word_by (Err c) f a e = (cc, cc, cc)
   word_by (Ok w) f a e =
@@ -55,11 +55,11 @@ module _ (world : World) where
   unfolding fetched_at
   word_of s f e = let z = word_by (fetch_at s) f s.address e in record { fetches = z.0; here = z.1; issues = z.2 }
 
-  decoded_so : (s : State) (f : Fetched) → WordOf s f → (g : ℕ) → decoded_at world s g ≡ then f.issued (λ i. Ok (with_operands_at s f.word g i))
+  decoded_so : (s : State) (f : Fetched) → WordOf s f → (g : ℕ) → decoded_at world s g ≡ and_then f.issued (λ i. Ok (with_operands_at s f.word g i))
   unfolding decoded_at
   decoded_so s f z g = rw (z.fetches, z.issues)
 
-  faulting_by : (o : Result ℕ Cause) (c : Cause) (k : ℕ → Fetched) (h : ℕ → Result Decoded Cause) → Err c ≡ then o (λ w. Ok (k w)) → Err c ≡ then o h
+  faulting_by : (o : Result ℕ Cause) (c : Cause) (k : ℕ → Fetched) (h : ℕ → Result Decoded Cause) → Err c ≡ and_then o (λ w. Ok (k w)) → Err c ≡ and_then o h
   faulting_by (Err z) c k h e = cc
   faulting_by (Ok w) c k h e = cc
 

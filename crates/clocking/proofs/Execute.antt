@@ -2,14 +2,14 @@
 use Rattle.std.proofs.Common.{◌≡◌, ℕ, Bool, true, false, cond, eqb, Some, None, Ok, Err, Option, Result, sym, refl, subst}
 use Rattle.rv32i.specs.declared.cause.Cause.{Cause}
 use Rattle.rv32i.specs.declared.register.Register.{Register}
-use Rattle.sequential.specs.Sequential.{State, World, then}
+use Rattle.sequential.specs.Sequential.{State, World, and_then}
 use Rattle.clocking.specs.declared.latch.Decoded.{Decoded}
 use Rattle.clocking.specs.declared.latch.Executed.{Executed}
 use Rattle.clocking.specs.declared.latch.Latch.{Latch}
 use Rattle.clocking.specs.declared.latch.Latch.TheVariants.{Empty, Faulting, Full}
 use Rattle.clocking.specs.declared.stage.Flow.{Flow}
 use Rattle.clocking.specs.declared.stage.Flow.TheVariants.{Moves, Stalls, RollsBack}
-use Rattle.rv32i.specs.declared.cause.Cause.TheVariants.{FetchOutside}
+use Rattle.rv32i.specs.declared.cause.Cause.TheVariants.{InstructionAccessFault}
 use Rattle.clocking.specs.Execute.{ExecuteOut, execute, redirect_unless, check_guess, execute_stage, x_result}
 use Rattle.clocking.specs.Decode.{early_value, from_x, or_else}
 use Rattle.clocking.proofs.Chain.{Reach, Broken, faults_on, HoldsM, HoldsX, behindM, behindX, guessed, Leads}
@@ -17,18 +17,18 @@ use Rattle.clocking.proofs.Data.{left, Back}
 use Rattle.clocking.proofs.Forward.{Known, layer, known_layer, Runs, AtX, at_x, runs, executes, ends}
 use Rattle.clocking.proofs.Partial.{decoded_at, executed_at, after_at}
 
-known_guessed_by : (f : Register → Option ℕ) (t : State) (b : Bool) → Known f (Ok t) → Known f (cond b (Ok t) (Err FetchOutside))
+known_guessed_by : (f : Register → Option ℕ) (t : State) (b : Bool) → Known f (Ok t) → Known f (cond b (Ok t) (Err InstructionAccessFault))
 known_guessed_by f t true k = k
 known_guessed_by f t b k = tt
 
 known_x : (s : State) (e : Executed) (g : ℕ) (r : Reach) → Runs s (Ok e) r → (f : Register → Option ℕ) → Known f (Ok s)
-    → Known (layer e.rd (early_value e.access e.result) f) (then r (guessed g))
+    → Known (layer e.rd (early_value e.access e.result) f) (and_then r (guessed g))
 known_x s e g (Err c) w f k = tt
 known_x s e g (Ok t) w f k =
     known_guessed_by (layer e.rd (early_value e.access e.result) f) t (eqb t.address g)
     (known_layer f s t e.rd (early_value e.access e.result) w.value w.registers w.plain k)
 
-stays_on : (s : State) (e : Executed) (g : ℕ) (r : Reach) → Runs s (Ok e) r → eqb e.next g ≡ true → r ≡ then r (guessed g)
+stays_on : (s : State) (e : Executed) (g : ℕ) (r : Reach) → Runs s (Ok e) r → eqb e.next g ≡ true → r ≡ and_then r (guessed g)
 stays_on s e g (Err c) w q = refl
 stays_on s e g (Ok t) w q = rw (w.address, q)
 
@@ -36,7 +36,7 @@ turns_off : (s : State) (e : Executed) (r : Reach) → Runs s (Ok e) r → Leads
 turns_off s e (Err c) w = tt
 turns_off s e (Ok t) w = sym w.address
 
-known_broken : (f : Register → Option ℕ) (c : Cause) (r : Reach) → Known f (then r (λ s. Err c))
+known_broken : (f : Register → Option ℕ) (c : Cause) (r : Reach) → Known f (and_then r (λ s. Err c))
 known_broken f c (Err z) = tt
 known_broken f c r = tt
 
@@ -64,17 +64,17 @@ module _ (world : World) where
     pub source : (f : Register → Option ℕ) → Known f (behindM world r old) → Sourced o.flow (λ i. or_else (from_x (x_result flow o.m) i) (f i)) (behindX world (behindM world r old) x)
 
   executed_so : (s : State) (d : Decoded) → Ok d ≡ decoded_at world s d.guess → execute d ≡ executed_at world s
-  executed_so s d e = subst (λ (z : Result Decoded Cause). then z execute ≡ executed_at world s) (sym e) (executes world s d.guess)
+  executed_so s d e = subst (λ (z : Result Decoded Cause). and_then z execute ≡ executed_at world s) (sym e) (executes world s d.guess)
 
   faulting_so : (s : State) (c : Cause) → Err c ≡ decoded_at world s 0 → Err c ≡ executed_at world s
   unfolding executed_at
   faulting_so s c e = rw (← e)
 
-  known_ended : (f : Register → Option ℕ) (c : Cause) (g : ℕ) (r : Reach) → Err c ≡ r → Known f (then r (guessed g))
-  known_ended f c g r e = subst (λ (z : Reach). Known f (then z (guessed g))) e tt
+  known_ended : (f : Register → Option ℕ) (c : Cause) (g : ℕ) (r : Reach) → Err c ≡ r → Known f (and_then r (guessed g))
+  known_ended f c g r e = subst (λ (z : Reach). Known f (and_then z (guessed g))) e tt
 
-  ended_on : (g : ℕ) (c : Cause) (r : Reach) → Err c ≡ r → ◌≡◌ {A = Reach} (Err c) (then r (guessed g))
-  ended_on g c r e = subst (λ (z : Reach). ◌≡◌ {A = Reach} (Err c) (then z (guessed g))) e refl
+  ended_on : (g : ℕ) (c : Cause) (r : Reach) → Err c ≡ r → ◌≡◌ {A = Reach} (Err c) (and_then r (guessed g))
+  ended_on g c r e = subst (λ (z : Reach). ◌≡◌ {A = Reach} (Err c) (and_then z (guessed g))) e refl
 
   redirect_kept : (s : State) (d : Decoded) (e : Executed) → Ok e ≡ executed_at world s → Runs s (Ok e) (after_at world s) → (b : Bool) → eqb e.next d.guess ≡ b
       → ExecuteKept Moves (Ok s) Empty (Full d) (redirect_unless e b)

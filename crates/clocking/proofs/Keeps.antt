@@ -29,7 +29,7 @@ sourced_read flow f r k = tt
 module _ (world : World) where
   module _ (t : State) (bytes n text : ℕ → ℕ) (g : Registers) (k : Latches) (reply answer : Option Reply) (arrival : Option Fetched) (c : Rest world t bytes g k)
       (served : Bytes world.data_size (bus_request (data_request world.data_size k.m)) reply bytes n)
-      (right : Bytes world.text_size (bus_request (plans world.data_size world.text_size g k reply)) answer world.text text)
+      (right : Bytes world.instructions_size (bus_request (plans world.data_size world.instructions_size g k reply)) answer world.instructions text)
       (arrives : Arrives k.f answer arrival) where
     abbrev size : ℕ
     size = world.data_size
@@ -70,11 +70,11 @@ module _ (world : World) where
         decode_kept world (reads size g k reply) (executes size k reply).redirect (executes size k reply).flow two _ k.x k.d x_held d_held from_execute.onward
         (sourced_read (executes size k reply).flow (reads size g k reply) (behindX world two k.x) forwards)
 
-    from_fetch : FetchKept world (behindX world (behindM world one (executes size k reply).m) (decodes size g k reply).x) (fetches size world.text_size g k reply arrival)
+    from_fetch : FetchKept world (behindX world (behindM world one (executes size k reply).m) (decodes size g k reply).x) (fetches size world.instructions_size g k reply arrival)
     from_fetch =
         fetch_kept world (decodes size g k reply).flow k.f k.d answer arrival (executes size k reply).redirect text (behindX world two k.x) _ right arrives d_held f_leads from_decode.rests
 
-    kept_on : Chain world t n g (latches_after size world.text_size g k reply arrival)
+    kept_on : Chain world t n g (latches_after size world.instructions_size g k reply arrival)
     kept_on = record {
       sized = c.sized;
       registers = c.registers;
@@ -88,9 +88,9 @@ module _ (world : World) where
 
   pub clock_keeps : (s : State) (bytes n text : ℕ → ℕ) (g : Registers) (k : Latches) (reply answer : Option Reply) (arrival : Option Fetched) → Chain world s bytes g k → Flows k.w
       → Bytes world.data_size (bus_request (data_request world.data_size k.m)) reply bytes n
-      → Bytes world.text_size (bus_request (plans world.data_size world.text_size (write_back g k.w) k reply)) answer world.text text
+      → Bytes world.instructions_size (bus_request (plans world.data_size world.instructions_size (write_back g k.w) k reply)) answer world.instructions text
       → Arrives k.f answer arrival
-      → (t : State) × Retires world s k.w t × Chain world t n (write_back g k.w) (latches_after world.data_size world.text_size (write_back g k.w) k reply arrival)
+      → (t : State) × Retires world s k.w t × Chain world t n (write_back g k.w) (latches_after world.data_size world.instructions_size (write_back g k.w) k reply arrival)
   clock_keeps s bytes n text g k reply answer arrival c w served right a =
       let z = retire world s bytes g k.f k.d k.x k.m k.w c w in
       (z.0, z.1, kept_on z.0 bytes n text (write_back g k.w) k reply answer arrival z.2 served right a)

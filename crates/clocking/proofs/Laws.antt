@@ -10,7 +10,7 @@ use Rattle.memory.specs.declared.Unserved.TheVariants.{Wait, Outside}
 use Rattle.rv32i.specs.Effects.{following}
 use Rattle.rv32i.specs.Targets.{target_of}
 use Rattle.rv32i.specs.declared.cause.Cause.{Cause}
-use Rattle.rv32i.specs.declared.cause.Cause.TheVariants.{JumpMisaligned, FetchOutside}
+use Rattle.rv32i.specs.declared.cause.Cause.TheVariants.{InstructionMisaligned, InstructionAccessFault}
 use Rattle.rv32i.specs.declared.instruction.Instruction.{Instruction}
 use Rattle.rv32i.specs.declared.instruction.Instruction.TheVariants.{Lui, Auipc, Jal, Jalr, Branch, Load, Store, Immediate, Shift, Register as Arithmetic, Fence, Ecall, Ebreak}
 use Rattle.rv32i.specs.declared.register.Register.{Register}
@@ -188,7 +188,7 @@ both false c e = absurd (false≢true e)
 
 -- ---- fetch
 
-sent_by : (f : ℕ) (b d : Bool) → bus_request (cond b (cond d (Ok (Some (Read f))) (Err FetchOutside)) (Err JumpMisaligned)) ≡ cond (b && d) (Some (Read f)) None
+sent_by : (f : ℕ) (b d : Bool) → bus_request (cond b (cond d (Ok (Some (Read f))) (Err InstructionAccessFault)) (Err InstructionMisaligned)) ≡ cond (b && d) (Some (Read f)) None
 sent_by f true true = refl
 sent_by f true false = refl
 sent_by f false d = refl
@@ -199,11 +199,11 @@ sent_so text f Stalls = refl
 sent_so text f Moves = sent_by f (eqb (f % 4) 0) (ltb f text)
 
 misaligned_by : (text f : ℕ) (d : Latch Fetched) (x : Option Fetched) (u : Option ℕ) → eqb (f % 4) 0 ≡ false
-    → fetch_stage f d Moves (fetch_request text f Moves) x u ≡ record { f = following f; d = Faulting (record { address = f; cause = JumpMisaligned }) }
+    → fetch_stage f d Moves (fetch_request text f Moves) x u ≡ record { f = following f; d = Faulting (record { address = f; cause = InstructionMisaligned }) }
 misaligned_by text f d x u e = rw e
 
 outside_by : (text f : ℕ) (d : Latch Fetched) (x : Option Fetched) (u : Option ℕ) → eqb (f % 4) 0 ≡ true → ltb f text ≡ false
-    → fetch_stage f d Moves (fetch_request text f Moves) x u ≡ record { f = following f; d = Faulting (record { address = f; cause = FetchOutside }) }
+    → fetch_stage f d Moves (fetch_request text f Moves) x u ≡ record { f = following f; d = Faulting (record { address = f; cause = InstructionAccessFault }) }
 outside_by text f d x u e i = rw (e, i)
 
 -- where something was asked, what arrived is put into D

@@ -10,7 +10,7 @@ use Rattle.rv32i.specs.declared.cause.Cause.{Cause}
 use Rattle.rv32i.specs.declared.effect.Effect.{Effect}
 use Rattle.rv32i.specs.declared.instruction.Instruction.{Instruction}
 use Rattle.rv32i.specs.declared.register.Register.{Register}
-use Rattle.sequential.specs.Sequential.{then}
+use Rattle.sequential.specs.Sequential.{and_then}
 use Rattle.clocking.specs.Counting.{is_wait, occupancy, has_fetched, if_rolled, one_if}
 use Rattle.clocking.specs.Laws.{at_w, at_m, at_x, at_d, effect_of}
 use Rattle.clocking.specs.Ports.{bus_request}
@@ -72,7 +72,7 @@ redirect_line : (m : Latch Executed) (d : Decoded) (e : Effect) (b : Bool) → E
 redirect_line m d e true = refl
 redirect_line m d e false = refl
 
-guess_line : (m : Latch Executed) (d : Decoded) (o : Result Effect Cause) → Executes Moves m (Full d) (check_guess d.address d.guess (then o (λ e. Ok (into_m d e))))
+guess_line : (m : Latch Executed) (d : Decoded) (o : Result Effect Cause) → Executes Moves m (Full d) (check_guess d.address d.guess (and_then o (λ e. Ok (into_m d e))))
 guess_line m d (Err c) = refl
 guess_line m d (Ok e) = redirect_line m d e (eqb e.next d.guess)
 
@@ -89,7 +89,7 @@ redirect_m : (d : Decoded) (e : Effect) (b : Bool) → at_m (redirect_unless (in
 redirect_m d e true = refl
 redirect_m d e false = refl
 
-guess_m : (d : Decoded) (o : Result Effect Cause) → at_m (check_guess d.address d.guess (then o (λ e. Ok (into_m d e)))).m ≡ at_x (Full d)
+guess_m : (d : Decoded) (o : Result Effect Cause) → at_m (check_guess d.address d.guess (and_then o (λ e. Ok (into_m d e)))).m ≡ at_x (Full d)
 guess_m d (Err c) = refl
 guess_m d (Ok e) = redirect_m d e (eqb e.next d.guess)
 

@@ -12,7 +12,7 @@ use Rattle.rv32i.specs.declared.effect.Access.TheVariants.{Load, Store}
 use Rattle.rv32i.specs.declared.effect.Effect.{Effect}
 use Rattle.rv32i.specs.declared.instruction.Instruction.{Instruction}
 use Rattle.rv32i.specs.declared.register.Register.{Register}
-use Rattle.sequential.specs.Sequential.{then}
+use Rattle.sequential.specs.Sequential.{and_then}
 use Rattle.clocking.specs.Counting.{is_wait}
 use Rattle.clocking.specs.Laws.{is_occupied, m_faults, m_request, m_asks, m_writes, value_with, m_value, effect_of, result_of, next_of, leads_elsewhere, x_is_misguessed, x_next, x_writes, is_load, x_loads, x_value, w_writes, w_value, is_missing, lacks, lacks_any, is_short, forward, operand_of, read_for, in_x}
 use Rattle.clocking.specs.Ports.{Asked, bus_request}
@@ -117,7 +117,7 @@ redirect_flow : (e : Executed) (b : Bool) → (redirect_unless e b).flow ≡ exe
 redirect_flow e true = refl
 redirect_flow e false = refl
 
-guess_flow : (d : Decoded) (o : Result Effect Cause) → (check_guess d.address d.guess (then o (λ e. Ok (into_m d e)))).flow ≡ execute_flow Moves true (leads_elsewhere o d.guess)
+guess_flow : (d : Decoded) (o : Result Effect Cause) → (check_guess d.address d.guess (and_then o (λ e. Ok (into_m d e)))).flow ≡ execute_flow Moves true (leads_elsewhere o d.guess)
 guess_flow d (Err c) = refl
 guess_flow d (Ok e) = redirect_flow (into_m d e) (eqb e.next d.guess)
 
@@ -144,7 +144,7 @@ redirect_gives d e r true = ap (λ z. cond (gives d.rd r) (Some z) None) (early_
 redirect_gives d e r false = ap (λ z. cond (gives d.rd r) (Some z) None) (early_by (access d.instruction) e.result)
 
 guess_gives : (d : Decoded) (r : Register) (o : Result Effect Cause)
-    → from_x (check_guess d.address d.guess (then o (λ e. Ok (into_m d e)))).m r
+    → from_x (check_guess d.address d.guess (and_then o (λ e. Ok (into_m d e)))).m r
     ≡ cond (is_ok o && gives d.rd r) (Some (cond (is_load (access d.instruction)) None (Some (result_of o)))) None
 guess_gives d r (Err c) = refl
 guess_gives d r (Ok e) = redirect_gives d e r (eqb e.next d.guess)
@@ -169,7 +169,7 @@ redirect_to e true i = absurd (false≢true i)
 redirect_to e false i = refl
 
 guess_to : (d : Decoded) (o : Result Effect Cause) → leads_elsewhere o d.guess ≡ true
-    → (check_guess d.address d.guess (then o (λ e. Ok (into_m d e)))).redirect ≡ Some (next_of o)
+    → (check_guess d.address d.guess (and_then o (λ e. Ok (into_m d e)))).redirect ≡ Some (next_of o)
 guess_to d (Err c) i = absurd (false≢true i)
 guess_to d (Ok e) i = redirect_to (into_m d e) (eqb e.next d.guess) i
 

@@ -50,7 +50,7 @@ module _ (world : World) where
     pub sized : Sized g
     pub registers : g ≡ t.registers
     pub base : Known (λ r. or_else (from_w k.w r) (Some (value_of g r))) (Ok t)
-    pub memory : bytes ≡ t.bytes
+    pub memory : bytes ≡ t.data_memory
     pub m : HoldsM world (Ok t) k.m
     pub x : HoldsX world (behindM world (Ok t) k.m) k.x
     pub d : HoldsD world (behindX world (behindM world (Ok t) k.m) k.x) k.d

@@ -50,8 +50,8 @@ module _ {P I D : Type 0} (instructions : Meaning I) (words : Meaning D) where
   -- the words that the instruction memory means, and the size of the data memory
   abbrev pub world_of : Core P I D → World
   world_of m = record {
-    text_size = instructions.view.size m.instructions;
-    text = instructions.view.byte m.instructions;
+    instructions_size = instructions.view.size m.instructions;
+    instructions = instructions.view.byte m.instructions;
     data_size = words.view.size m.«data»;
   }
 
@@ -60,7 +60,7 @@ module _ {P I D : Type 0} (instructions : Meaning I) (words : Meaning D) where
   state_of m = record {
     address = m.latches.f;
     registers = m.registers;
-    bytes = words.view.byte m.«data»;
+    data_memory = words.view.byte m.«data»;
   }
 
 -- where the pipeline has stopped, the sequential machine stops at s with the same cause and address
@@ -70,8 +70,8 @@ StopsSo world s (Some stop) = (stop.address ≡ s.address) × (step world s ≡ 
 
 -- the data bytes are those of s, once an instruction in W that does not fault is done too
 abbrev pub BytesSo : World → State → Latch Completed → (ℕ → ℕ) → Type 0
-BytesSo world s (Full c) bytes = (p : Step) × (step world s ≡ Ok p) × (bytes ≡ p.after.bytes)
-BytesSo world s w bytes = bytes ≡ s.bytes
+BytesSo world s (Full c) bytes = (p : Step) × (step world s ≡ Ok p) × (bytes ≡ p.after.data_memory)
+BytesSo world s w bytes = bytes ≡ s.data_memory
 
 abbrev pub stopped_count : Option Stop → ℕ
 stopped_count None = 0

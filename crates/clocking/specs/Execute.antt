@@ -3,7 +3,7 @@ use Rattle.std.specs.Prelude.{ℕ, Bool, true, false, Some, None, Ok, Err, Optio
 use Rattle.rv32i.specs.Effects.{executed, access}
 use Rattle.rv32i.specs.declared.cause.Cause.{Cause}
 use Rattle.rv32i.specs.declared.effect.Effect.{Effect}
-use Rattle.sequential.specs.Sequential.{then}
+use Rattle.sequential.specs.Sequential.{and_then}
 use Rattle.clocking.specs.declared.latch.Decoded.{Decoded}
 use Rattle.clocking.specs.declared.latch.Executed.{Executed}
 use Rattle.clocking.specs.declared.latch.Latch.{Latch}
@@ -30,7 +30,7 @@ into_m d e = record {
 }
 
 abbrev pub execute : Decoded → Result Executed Cause
-execute d = then (executed d.instruction d.address d.a d.b) (λ e. Ok (into_m d e))
+execute d = and_then (executed d.instruction d.address d.a d.b) (λ e. Ok (into_m d e))
 
 -- a rollback, unless the true next address is the guessed one
 abbrev pub redirect_unless : Executed → Bool → ExecuteOut

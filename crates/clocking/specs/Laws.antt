@@ -7,7 +7,7 @@ use Rattle.memory.specs.Meaning.{Meaning, Reply}
 use Rattle.memory.specs.declared.Answer.TheVariants.{Word}
 use Rattle.rv32i.specs.Effects.{first_source, second_source, destination, executed, access, request, loaded, following, offset_from}
 use Rattle.rv32i.specs.declared.cause.Cause.{Cause}
-use Rattle.rv32i.specs.declared.cause.Cause.TheVariants.{JumpMisaligned, FetchOutside}
+use Rattle.rv32i.specs.declared.cause.Cause.TheVariants.{InstructionMisaligned, InstructionAccessFault}
 use Rattle.rv32i.specs.declared.effect.Access.{Access}
 use Rattle.rv32i.specs.declared.effect.Access.TheVariants.{Load}
 use Rattle.rv32i.specs.declared.effect.Effect.{Effect}
@@ -259,10 +259,10 @@ module _ (size : ℕ) (k : Latches) (reply : Option Reply) where
     pub execute_rolls : rolls_by_execute ≡ true → (n.d ≡ Empty) × (n.f ≡ x_next k.x)
     pub stalls : d_stalls ≡ true → (n.d ≡ k.d) × (n.f ≡ k.f)
     pub misaligned : d_is_free ≡ true → (k.f % 4 == 0) ≡ false
-        → (n.d ≡ Faulting (record { address = k.f; cause = JumpMisaligned }))
+        → (n.d ≡ Faulting (record { address = k.f; cause = InstructionMisaligned }))
         × (n.f ≡ following k.f)
     pub outside : d_is_free ≡ true → (k.f % 4 == 0) ≡ true → nat_lt k.f text ≡ false
-        → (n.d ≡ Faulting (record { address = k.f; cause = FetchOutside }))
+        → (n.d ≡ Faulting (record { address = k.f; cause = InstructionAccessFault }))
         × (n.f ≡ following k.f)
     pub waits : is_wait answer ≡ true → (n.d ≡ Empty) × (n.f ≡ k.f)
     pub arrives : (w : ℕ) → answer ≡ Some (Ok (Word w))

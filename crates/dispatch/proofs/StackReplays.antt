@@ -1,14 +1,14 @@
 -- What a stack of any depth replies follows from the calls. Assumes nothing.
 use Rattle.std.proofs.Common.{ℕ, zero, suc}
-use Rattle.memory.specs.FlatLaws.{flat_lawful}
+use Rattle.memory.specs.Laws.Flat.{flat_lawful}
 use Rattle.memory.specs.Meaning.{Lawful}
 use Rattle.memory.specs.Runs.{Replays}
-use Rattle.memory.specs.SumLaws.{sum_lawful}
+use Rattle.memory.specs.Laws.Sum.{sum_lawful}
 use Rattle.memory.proofs.FlatReplays.{flat_replays}
 use Rattle.memory.proofs.SumReplays.{sum_replays}
-use Rattle.wait_states.specs.WaitLaws.{wait_lawful}
+use Rattle.wait_states.specs.Laws.WaitStates.{wait_lawful}
 use Rattle.wait_states.proofs.WaitReplays.{wait_replays}
-use Rattle.write_buffer.specs.BufferLaws.{buffer_lawful}
+use Rattle.write_buffer.specs.Laws.WriteBuffer.{buffer_lawful}
 use Rattle.write_buffer.proofs.BufferReplays.{buffer_replays}
 use Rattle.dispatch.specs.Stacks.{means}
 

@@ -11,7 +11,7 @@ use Rattle.setup.specs.declared.choice.LayerChoice.TheVariants.{WaitStates as So
 use Rattle.wait_states.specs.declared.WaitStates.{WaitStates}
 use Rattle.wait_states.specs.WaitStates.{wait_fits, wait_view, wait_means}
 use Rattle.write_buffer.specs.declared.WriteBuffer.{WriteBuffer}
-use Rattle.write_buffer.specs.Held.{pending}
+use Rattle.write_buffer.specs.PostedWrites.{writes_in}
 use Rattle.write_buffer.specs.WriteBuffer.{buffer_fits, buffer_view, buffer_means}
 
 abbrev pub Layer : Type 0 → Type 0
@@ -33,7 +33,7 @@ module _ {M : Type 0} where
   -- a write buffer over a memory, that holds nothing
   pub record BufferOver (lower : M) (b : WriteBuffer M) : Type 0 where
     pub below : b.below ≡ lower
-    pub held : pending b.held ≡ []
+    pub held : writes_in b.posted ≡ []
 
   -- the chosen layer over a memory, as it starts
   abbrev pub Starts : M → LayerChoice → Layer M → Type 0

@@ -4,7 +4,7 @@ use Rattle.std.specs.declared.alloc.Global.{Global}
 use Rattle.base.specs.Refusals.{Says}
 use Rattle.base.specs.declared.refusal.Refusal.{Refusal}
 use Rattle.memory.specs.declared.flat.Flat.{Flat as FlatMemory}
-use Rattle.memory.specs.Flat.{flat_fits, flat_means}
+use Rattle.memory.specs.Flat.{flat_fits, flat_bytes, flat_size, flat_means}
 use Rattle.memory.specs.Meaning.{Meaning}
 use Rattle.setup.specs.declared.choice.LayerChoice.{LayerChoice}
 use Rattle.setup.specs.declared.choice.StackChoice.{StackChoice}
@@ -64,7 +64,7 @@ stack_fits bytes ls = flat_fits (vec_len bytes) && layers_fit ls
 
 -- these layers, each as it starts, over a flat memory of these bytes
 abbrev pub Over : Vec ℕ Global → List LayerChoice → (n : ℕ) → Layered n → Type 0
-Over bytes [] zero m = (m.bytes ≡ bytes) × (m.size ≡ vec_len bytes)
+Over bytes [] zero m = (flat_bytes m ≡ bytes) × (flat_size m ≡ vec_len bytes)
 Over bytes (l ∷ ls) (suc n) m = (lower : Layered n) × Over bytes ls n lower × Starts lower l m
 Over bytes _ _ m = ⊥
 

@@ -1,6 +1,6 @@
 //! Images as the programs take them.
 ghost use Rattle.std.specs.Prelude.{◌≡◌, true, length, vec_len};
-ghost use Rattle.memory.specs.Flat.{flat_fits};
+ghost use Rattle.memory.specs.Flat.{flat_fits, flat_bytes, flat_size};
 
 mod from_words;
 mod padding;
@@ -26,8 +26,8 @@ impl PaddedImage {
 
     /// The flat memory of the bytes.
     pub fn into_memory(self) -> Flat
-        ensures bytes { result.bytes ≡ self.bytes }
-        ensures size { result.size ≡ length self.bytes.items }
+        ensures bytes { flat_bytes result ≡ self.bytes }
+        ensures size { flat_size result ≡ length self.bytes.items }
     {
         Flat::new(self.into_bytes())
     }

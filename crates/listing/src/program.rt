@@ -1,5 +1,6 @@
 //! A program from its input to its print.
 ghost use Rattle.std.specs.Prelude.{◌≡◌, replicate, IfOk, vec_items, string_bytes};
+ghost use Rattle.memory.specs.Flat.{flat_bytes, flat_size};
 ghost use Rattle.listing.specs.Programs.{Printed, Answered};
 
 use crate::image::{PaddedImage, padded};
@@ -19,7 +20,7 @@ const DATA: usize = 4096;
 
 /// A program's data memory, all zeros.
 pub fn data_memory(heap: Global) -> Result<Flat, AllocError>
-    ensures { IfOk result (λ m. (vec_items m.bytes ≡ replicate 4096 0) × (m.size ≡ 4096)) }
+    ensures { IfOk result (λ m. (vec_items (flat_bytes m) ≡ replicate 4096 0) × (flat_size m ≡ 4096)) }
 {
     Ok(Flat::new(vec![in heap; 0u8; DATA]?))
 }

@@ -1,6 +1,6 @@
 //! A memory of one of two kinds.
 ghost use Rattle.memory.specs.Runs.{Replays};
-ghost use Rattle.memory.specs.SumLaws.{sum_lawful};
+ghost use Rattle.memory.specs.Laws.Sum.{sum_lawful};
 ghost use Rattle.memory.specs.Sums.{sum_means};
 
 use crate::{Memory, Unserved};

@@ -1,6 +1,6 @@
 -- What the calls' contracts say of the two logs. Assumes nothing.
 use Rattle.std.specs.Prelude.{◌≡◌, Bool, List, Result}
-use Rattle.base.specs.Logs.{records, spare, room}
+use Rattle.base.specs.Logs.{records, spare, room, slots_of}
 use Rattle.base.specs.Refusals.{Says}
 use Rattle.base.specs.declared.refusal.Refusal.{Refusal}
 use Rattle.clocking.specs.declared.state.Event.{Event}
@@ -19,8 +19,8 @@ logs j = record {
 pub record SameSlots (j k : Journal) : Type 0 where
   pub retired_room : room k.retirements ≡ room j.retirements
   pub clock_room : room k.clocks ≡ room j.clocks
-  pub retired_lent : k.retirements.slots.ghost_name ≡ j.retirements.slots.ghost_name
-  pub clock_lent : k.clocks.slots.ghost_name ≡ j.clocks.slots.ghost_name
+  pub retired_lent : slots_of k.retirements ≡ slots_of j.retirements
+  pub clock_lent : slots_of k.clocks ≡ slots_of j.clocks
 
 -- k has these events beyond those of j
 pub record Adds (j : Journal) (es : List Event) (k : Journal) : Type 0 where

@@ -15,14 +15,14 @@ use Rattle.report.specs.declared.lines.Longest.{Longest}
 module _ (s : Setup) (v : Vec ℕ Global) where
   -- the data memory, from what is said of the stack over zero bytes
   pub data_made : (m : Stack) → flat_fits s.data_size ≡ true → vec_len v ≡ s.data_size → vec_items v ≡ replicate s.data_size 0
-      → Built v (layers s.«data») (depth m) (memory m) → DataMade s m
+      → Built v (layers s.data_memory) (depth m) (memory m) → DataMade s m
   data_made m f n z b =
-      (f, (and_parts (flat_fits (vec_len v)) (layers_fit (layers s.«data»)) b.fits).1, record { vector = v; holds = z; built = b })
+      (f, (and_parts (flat_fits (vec_len v)) (layers_fit (layers s.data_memory)) b.fits).1, record { vector = v; holds = z; built = b })
 
   -- and its refusal
-  pub data_unfit : (why : ℕ) → vec_len v ≡ s.data_size → Unfit v (layers s.«data») why → DataUnfit s why
+  pub data_unfit : (why : ℕ) → vec_len v ≡ s.data_size → Unfit v (layers s.data_memory) why → DataUnfit s why
   data_unfit why n h =
-      (h.0 ∙ ap (λ (k : ℕ). if flat_fits k then 2 else 1) n, sym (ap (λ (k : ℕ). flat_fits k && layers_fit (layers s.«data»)) n) ∙ h.1)
+      (h.0 ∙ ap (λ (k : ℕ). if flat_fits k then 2 else 1) n, sym (ap (λ (k : ℕ). flat_fits k && layers_fit (layers s.data_memory)) n) ∙ h.1)
 
 -- the whole answer, from the two memories and the run over them
 module _ (s : Setup) (v : Vec ℕ Global) (i d : Stack) (b : Built v (layers s.instructions) (depth i) (memory i)) (made : DataMade s d) where
@@ -34,7 +34,7 @@ module _ (s : Setup) (v : Vec ℕ Global) (i d : Stack) (b : Built v (layers s.i
   start_of t h = ap (λ (n : ℕ). load_fits 0 n s.start) (sym (b.size ∙ v.ok.0)) ∙ h
 
   longest : longest_over (stack_means i) (stack_means d) (memory i) (memory d) ≡ longest_of s
-  longest = λ k. record { instructions = b.longest k; «data» = made.2.built.longest k }
+  longest = λ k. record { instructions = b.longest k; data_memory = made.2.built.longest k }
 
   pub image_answer : (r : Result (String Global) Failure) → RunAnswer (stack_means i) (stack_means d) s (memory i) (memory d) r → ImageAnswer s (vec_items v) r
   image_answer (Ok text) run =

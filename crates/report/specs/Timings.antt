@@ -65,7 +65,7 @@ module _ {I : Type 0} (instructions : Meaning I) where
 module _ {I D : Type 0} (instructions : Meaning I) (words : Meaning D) where
   -- the longest waits that two memories state
   abbrev pub longest_over : I → D → Longest
-  longest_over i d = record { instructions = instructions.view.longest i; «data» = words.view.longest d }
+  longest_over i d = record { instructions = instructions.view.longest i; data_memory = words.view.longest d }
 
   -- the machine is loaded with these memories and a fresh predictor
   pub record Assembled (s : Setup) (i : I) (d : D) (m : Machine Chosen I D) : Type 0 where
@@ -104,21 +104,21 @@ abbrev pub refusal_of : Setup → ℕ → Option ℕ
 refusal_of s size =
     if not (layers_fit (layers s.instructions)) then Some 2
     else if not (flat_fits s.data_size) then Some 1
-    else if not (layers_fit (layers s.«data»)) then Some 2
+    else if not (layers_fit (layers s.data_memory)) then Some 2
     else if not (load_fits 0 size s.start) then Some 3
     else None
 
 -- the data memory of a set-up whose two checks pass
 abbrev pub DataMade : Setup → Stack → Type 0
 DataMade s stack =
-    (flat_fits s.data_size ≡ true) × (layers_fit (layers s.«data») ≡ true)
-    × OfBytes (layers s.«data») (replicate s.data_size 0) stack
+    (flat_fits s.data_size ≡ true) × (layers_fit (layers s.data_memory) ≡ true)
+    × OfBytes (layers s.data_memory) (replicate s.data_size 0) stack
 
 -- the number of the first check that does not
 abbrev pub DataUnfit : Setup → ℕ → Type 0
 DataUnfit s why =
     (why ≡ (if flat_fits s.data_size then 2 else 1))
-    × (flat_fits s.data_size && layers_fit (layers s.«data») ≡ false)
+    × (flat_fits s.data_size && layers_fit (layers s.data_memory) ≡ false)
 
 -- The data memory, or its refusal. There may be no memory only where a flat memory can have so many bytes.
 abbrev pub DataAnswer : Setup → Result Stack Failure → Type 0
@@ -128,7 +128,7 @@ DataAnswer s = FailureSays (DataMade s) (DataUnfit s) (flat_fits s.data_size ≡
 
 -- the longest waits of the chosen memories
 abbrev pub longest_of : Setup → Longest
-longest_of s = record { instructions = longest_wait (layers s.instructions); «data» = longest_wait (layers s.«data») }
+longest_of s = record { instructions = longest_wait (layers s.instructions); data_memory = longest_wait (layers s.data_memory) }
 
 -- the text is that of the run that the set-up asks for, over the chosen memories of the image and of zero bytes of data
 pub record Timed (s : Setup) (image text : List ℕ) : Type 0 where
@@ -136,7 +136,7 @@ pub record Timed (s : Setup) (image text : List ℕ) : Type 0 where
   pub instructions : Stack
   pub words : Stack
   pub holds_image : OfBytes (layers s.instructions) image instructions
-  pub holds_zeros : OfBytes (layers s.«data») (replicate s.data_size 0) words
+  pub holds_zeros : OfBytes (layers s.data_memory) (replicate s.data_size 0) words
   pub run : RunOver (stack_means instructions) (stack_means words) s (longest_of s) (memory instructions) (memory words) text
 
 -- The text, or the number of the first check that refuses the set-up. There may be no memory only

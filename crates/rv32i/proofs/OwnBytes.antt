@@ -13,7 +13,7 @@ use Rattle.rv32i.specs.declared.instruction.LoadKind.{LoadKind}
 use Rattle.rv32i.specs.declared.instruction.LoadKind.TheVariants.{Byte, Half, Word, ByteUnsigned, HalfUnsigned}
 use Rattle.rv32i.specs.declared.instruction.StoreKind.{StoreKind}
 use Rattle.rv32i.specs.declared.instruction.StoreKind.TheVariants.{Byte as ByteStored, Half as HalfStored, Word as WordStored}
-use Rattle.rv32i.specs.Bytewise.{little, extended, value_of, LoadsItsBytes, Stored, StoresItsBytes}
+use Rattle.rv32i.specs.Bytewise.{little_endian, sign_extended, load_value, LoadsItsBytes, Stored, StoresItsBytes}
 use Rattle.rv32i.specs.Effects.{word_address, lanes_of, load_width, store_width, request, loaded}
 use Rattle.rv32i.specs.Signs.{signed, bits_of}
 
@@ -34,10 +34,10 @@ accepts q p misaligned outside false d e = absurd cc
 
 -- ---- loads
 
-extended_8 : (n : ℕ) → n < 256 → bits_of (signed (2 ^ 7) n) ≡ extended 128 n
+extended_8 : (n : ℕ) → n < 256 → bits_of (signed (2 ^ 7) n) ≡ sign_extended 128 n
 extended_8 n h = grind (arith, ints, nat_tests)
 
-extended_16 : (n : ℕ) → n < 65536 → bits_of (signed (2 ^ 15) n) ≡ extended 32768 n
+extended_16 : (n : ℕ) → n < 65536 → bits_of (signed (2 ^ 15) n) ≡ sign_extended 32768 n
 extended_16 n h = grind (arith, ints, nat_tests)
 
 module _ (bytes : ℕ → ℕ) (small : (y : ℕ) → bytes y < 256) (x : ℕ) where
@@ -50,24 +50,24 @@ module _ (bytes : ℕ → ℕ) (small : (y : ℕ) → bytes y < 256) (x : ℕ) w
       (λ e. grind (arith, small))
       (λ e. grind (arith, small))
 
-  two_bytes : (a r : ℕ) → r < 4 → x ≡ a + r → r % 2 ≡ 0 → word bytes a / 2 ^ (8 * r) % 2 ^ 16 ≡ little bytes x 2
+  two_bytes : (a r : ℕ) → r < 4 → x ≡ a + r → r % 2 ≡ 0 → word bytes a / 2 ^ (8 * r) % 2 ^ 16 ≡ little_endian bytes x 2
   two_bytes a =
-      by_place (λ (r : ℕ). x ≡ a + r → r % 2 ≡ 0 → word bytes a / 2 ^ (8 * r) % 2 ^ 16 ≡ little bytes x 2)
+      by_place (λ (r : ℕ). x ≡ a + r → r % 2 ≡ 0 → word bytes a / 2 ^ (8 * r) % 2 ^ 16 ≡ little_endian bytes x 2)
       (λ e m. grind (arith, small))
       (λ e m. absurd (omega arith))
       (λ e m. grind (arith, small))
       (λ e m. absurd (omega arith))
 
-  four_bytes : (a r : ℕ) → x ≡ a + r → r ≡ 0 → word bytes a / 2 ^ (8 * r) ≡ little bytes x 4
+  four_bytes : (a r : ℕ) → x ≡ a + r → r ≡ 0 → word bytes a / 2 ^ (8 * r) ≡ little_endian bytes x 4
   four_bytes a r e z = rw z (grind (arith, small))
 
-  loads_at : (k : LoadKind) → x % load_width k ≡ 0 → loaded (Some (Load k)) x (word bytes (word_address x)) ≡ value_of k (little bytes x (load_width k))
+  loads_at : (k : LoadKind) → x % load_width k ≡ 0 → loaded (Some (Load k)) x (word bytes (word_address x)) ≡ load_value k (little_endian bytes x (load_width k))
   unfolding loaded
   loads_at Byte h =
-      let i : bytes x ≡ little bytes x 1 = omega arith in
-      rw (one_byte (word_address x) (x % 4) (omega arith) (omega arith)) (extended_8 (bytes x) (small x) ∙ ap (extended 128) i)
+      let i : bytes x ≡ little_endian bytes x 1 = omega arith in
+      rw (one_byte (word_address x) (x % 4) (omega arith) (omega arith)) (extended_8 (bytes x) (small x) ∙ ap (sign_extended 128) i)
   loads_at Half h =
-      rw (two_bytes (word_address x) (x % 4) (omega arith) (omega arith) (omega arith)) (extended_16 (little bytes x 2) (omega (arith, small x, small (x + 1))))
+      rw (two_bytes (word_address x) (x % 4) (omega arith) (omega arith) (omega arith)) (extended_16 (little_endian bytes x 2) (omega (arith, small x, small (x + 1))))
   loads_at Word h = four_bytes (word_address x) (x % 4) (omega arith) h
   loads_at ByteUnsigned h = one_byte (word_address x) (x % 4) (omega arith) (omega arith) ∙ omega arith
   loads_at HalfUnsigned h = two_bytes (word_address x) (x % 4) (omega arith) (omega arith) (omega arith)

@@ -14,7 +14,7 @@ use Rattle.rv32i_words.specs.Fields.{opcode_of, funct3_of, funct7_of}
 use Rattle.rv32i_words.specs.Operations.{operation_by, operation_of}
 use Rattle.std.specs.List.{find}
 use Rattle.std.specs.Option.{option_map}
-use Rattle.rv32i_words.specs.Search.{fits, first_in}
+use Rattle.rv32i_words.specs.Search.{matches, first_in}
 use Rattle.rv32i_words.proofs.Masks.{test_op, test_f3, test_f7, test_all}
 
 -- the constant of the code
@@ -111,7 +111,7 @@ same op f3 f7 rest =
 -- the search, row by row
 abbrev in_turn : List Row → ℕ → Option Operation
 in_turn [] w = None
-in_turn (r ∷ rs) w = cond (fits w r) (Some r.operation) (in_turn rs w)
+in_turn (r ∷ rs) w = cond (matches w r) (Some r.operation) (in_turn rs w)
 
 mapped : (b : Bool) (r : Row) (o : Option Row) → option_map (λ (x : Row). x.operation) (cond b (Some r) o) ≡ cond b (Some r.operation) (option_map (λ (x : Row). x.operation) o)
 mapped true r o = refl
@@ -119,7 +119,7 @@ mapped false r o = refl
 
 turn_by_turn : (rs : List Row) (w : ℕ) → first_in rs w ≡ in_turn rs w
 turn_by_turn [] w = refl
-turn_by_turn (r ∷ rs) w = mapped (fits w r) r (find (fits w) rs) ∙ ap (λ (o : Option Operation). cond (fits w r) (Some r.operation) o) (turn_by_turn rs w)
+turn_by_turn (r ∷ rs) w = mapped (matches w r) r (find (matches w) rs) ∙ ap (λ (o : Option Operation). cond (matches w r) (Some r.operation) o) (turn_by_turn rs w)
 
 pub table_is : (w : ℕ) → w < 2 ^ 32 → first_in rows w ≡ operation_of w
 unfolding Same

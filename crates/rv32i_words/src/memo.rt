@@ -29,7 +29,8 @@ impl Model for Entry {
 
     ghost inverse = { λ w. record { word = w; answer = issued w } };
 
-    ghost inverse_ok = { λ e h. ap (λ (a : Result Instruction Cause). record { word = e.word; answer = a }) (sym h) };
+    ghost inverse_ok = { λ e h.
+        ap (λ (a : Result Instruction Cause). record e { answer = a }) (sym h) };
 }
 
 impl Entry {

@@ -7,8 +7,8 @@ use Rattle.memory.specs.declared.flat.Flat.{Flat}
 use Rattle.wait_states.specs.declared.WaitStates.{WaitStates}
 use Rattle.write_buffer.specs.declared.WriteBuffer.{WriteBuffer}
 use Rattle.base.specs.declared.branch.Outcome.{Outcome}
-use Rattle.predictor.specs.Counting.{fresh, value_at, number_of}
-use Rattle.predictor.specs.Tables.{taught}
+use Rattle.predictor.specs.Counting.{initial_values, value_at, index_of}
+use Rattle.predictor.specs.Tables.{counters_after}
 use Rattle.rv32i.specs.Registers.{register}
 use Rattle.rv32i_words.specs.Words.{decoded}
 use Rattle.rv32i.specs.declared.instruction.Condition.TheVariants.{Ne}
@@ -48,9 +48,9 @@ taken address target = record { address = address; target = target; taken = true
 -- the branch's counter after one, two and three times the same outcome, by what Bimodal's contracts say of its counters
 abbrev pub counts_of : Outcome → List ℕ
 counts_of o =
-    value_at (taught fresh o) (number_of o.address) ∷
-    value_at (taught (taught fresh o) o) (number_of o.address) ∷
-    value_at (taught (taught (taught fresh o) o) o) (number_of o.address) ∷ []
+    value_at (counters_after initial_values o) (index_of o.address) ∷
+    value_at (counters_after (counters_after initial_values o) o) (index_of o.address) ∷
+    value_at (counters_after (counters_after (counters_after initial_values o) o) o) (index_of o.address) ∷ []
 
 pub record TableGiven : Type 0 where
   pub decodes : map decoded words ≡ instructions

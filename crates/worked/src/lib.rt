@@ -2,9 +2,9 @@
 #![tactic(auto)]
 
 ghost use Rattle.std.specs.Prelude.{◌≡◌};
-ghost use Rattle.predictor.specs.Counting.{value_at, number_of};
+ghost use Rattle.predictor.specs.Counting.{value_at, index_of};
 ghost use Rattle.predictor.specs.States.{counters_of};
-ghost use Rattle.predictor.specs.Tables.{taught};
+ghost use Rattle.predictor.specs.Tables.{counters_after};
 ghost use Rattle.worked.specs.Examples.{TableGiven, instructions, counts, longest, counts_of, taken};
 
 use base::branch::Outcome;
@@ -12,8 +12,8 @@ use memory::{Flat, Memory};
 use predictor::Predictor;
 use predictor::bimodal::Bimodal;
 use rv32i::instruction::Instruction;
-use wait_states::WaitStates;
 use rv32i_words::decoding::decode;
+use wait_states::WaitStates;
 use write_buffer::WriteBuffer;
 
 /// What the worked examples come to.
@@ -40,8 +40,8 @@ fn taken(address: u32, target: u32) -> Outcome
 /// The predictor learns an outcome: the value of the branch's counter then.
 fn learned(bimodal: &mut Bimodal, outcome: Outcome) -> u8
     ensures counter { result
-        ≡ value_at (taught (counters_of bimodal.old) outcome) (number_of outcome.address) }
-    ensures counters { counters_of bimodal.new ≡ taught (counters_of bimodal.old) outcome }
+        ≡ value_at (counters_after (counters_of bimodal.old) outcome) (index_of outcome.address) }
+    ensures counters { counters_of bimodal.new ≡ counters_after (counters_of bimodal.old) outcome }
 {
     bimodal.update(outcome);
     bimodal.counter(outcome.address).value

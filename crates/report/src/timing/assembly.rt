@@ -20,7 +20,7 @@ pub(crate) fn zeroed_memory(heap: Global, setup: &Setup) -> Result<Stack, Failur
     let size = setup.data_size as usize;
     Flat::check(size)?;
     let zeros = vec![in heap; 0u8; size]?;
-    Ok(build(zeros, setup.data)?)
+    Ok(build(zeros, setup.data_memory)?)
 }
 
 /// A machine that is loaded, and the longest waits of its memories.
@@ -42,7 +42,7 @@ pub(crate) fn assemble<I: Memory + Drop, D: Memory + Drop>(
     check(0, setup.start, &instructions)?;
     let longest = Longest {
         instructions: instructions.longest(),
-        data: data_memory.longest(),
+        data_memory: data_memory.longest(),
     };
     let predictor = chosen(setup.predictor);
     let machine = load(0, setup.start, predictor, instructions, data_memory);

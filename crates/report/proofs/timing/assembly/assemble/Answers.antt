@@ -9,5 +9,5 @@ returns g c = (
     loaded = c.load-machine.ensures.starts;
     agrees = c.load-machine.ensures.agrees;
   },
-  λ k. record { instructions = c.longest.ensures k; «data» = c.longest-2.ensures k },
+  λ k. record { instructions = c.longest.ensures k; data_memory = c.longest-2.ensures k },
 )

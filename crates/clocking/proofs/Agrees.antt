@@ -7,7 +7,7 @@ use Rattle.rv32i.specs.declared.registers.Registers.{Registers}
 use Rattle.sequential.specs.Runs.{Steps, none}
 use Rattle.sequential.specs.Sequential.{State, World}
 use Rattle.sequential.specs.declared.record.Stop.{Stop}
-use Rattle.clocking.specs.Agreement.{retirements, productive, world_of, state_of, StopsSo, BytesSo, Accounted, Agreement}
+use Rattle.clocking.specs.Agreement.{retirements, productive, world_of, state_of, StopAgrees, BytesAgree, Accounted, Agreement}
 use Rattle.clocking.specs.Clock.{completes, executes, decodes, plans, latches_after, Moved, Halted, Worked, Cycled}
 use Rattle.clocking.specs.WriteBack.{stop_of, retirement_of, outcome_of, write_back}
 use Rattle.clocking.specs.Counting.{in_flight_count, occupancy, has_fetched, dropped_count, Counted}
@@ -82,8 +82,8 @@ module _ {P I D : Type 0} (table : TableOf P) (instructions : Meaning I) (words 
     reached : State
     steps : Steps world start (retirements h) reached
     registers : m.registers ≡ reached.registers
-    stops : StopsSo world reached m.stopped
-    bytes : BytesSo world reached m.latches.w (words.view.byte m.«data»)
+    stops : StopAgrees world reached m.stopped
+    bytes : BytesAgree world reached m.latches.w (words.view.byte m.«data»)
     live : LiveIf m.stopped h reached m
     data_size : words.view.size m.«data» ≡ world.data_size
     text_size : instructions.view.size m.instructions ≡ world.instructions_size
@@ -255,7 +255,7 @@ module _ {P I D : Type 0} (table : TableOf P) (instructions : Meaning I) (words 
   kept_halted h m e n stop k l fault runs spent w =
       let a = k.accounted in
       let here : HoldsW world (Ok k.reached) (Faulting stop) = rw fault at l.chain.w in
-      let bytes : BytesSo world k.reached (Faulting stop) (words.view.byte m.«data») = subst (λ z. BytesSo world k.reached z (words.view.byte m.«data»)) fault k.bytes in
+      let bytes : BytesAgree world k.reached (Faulting stop) (words.view.byte m.«data») = subst (λ z. BytesAgree world k.reached z (words.view.byte m.«data»)) fault k.bytes in
       let i = il.idle _ _ w.text_idle in
       let j = dl.idle _ _ w.data_idle in
       let none : e.retirement ≡ None = ap (λ (e : Event). e.retirement) w.event in

@@ -5,7 +5,7 @@ use Rattle.sequential.specs.Runs.{Steps, more}
 use Rattle.sequential.specs.Sequential.{State, World}
 use Rattle.sequential.specs.declared.record.Retirement.{Retirement}
 use Rattle.sequential.specs.declared.record.Stop.{Stop}
-use Rattle.clocking.specs.Agreement.{list_of, BytesSo}
+use Rattle.clocking.specs.Agreement.{list_of, BytesAgree}
 use Rattle.clocking.specs.WriteBack.{stop_of, retirement_of, write_back}
 use Rattle.clocking.specs.Counting.{occupancy, one_if}
 use Rattle.clocking.specs.declared.latch.Completed.{Completed}
@@ -108,11 +108,11 @@ steps_on world start s t Empty rs k r = rw (append-nil, r) k
 steps_on world start s t (Faulting stop) rs k r = absurd r
 steps_on world start s t (Full c) rs k r = more (record { retirement = retires_as c; after = t }) k (step_completes world s c t r.0 r.1)
 
-bytes_by : (world : World) (s : State) (c : Completed) (bytes : ℕ → ℕ) (r : Reach) → Ok c ≡ completed_at world s → after_at world s ≡ r → Pairs s (Ok c) r → bytes ≡ bytes_at s r → BytesSo world s (Full c) bytes
+bytes_by : (world : World) (s : State) (c : Completed) (bytes : ℕ → ℕ) (r : Reach) → Ok c ≡ completed_at world s → after_at world s ≡ r → Pairs s (Ok c) r → bytes ≡ bytes_at s r → BytesAgree world s (Full c) bytes
 bytes_by world s c bytes (Err z) e i p h = absurd p
 bytes_by world s c bytes (Ok t) e i p h = (record { retirement = retires_as c; after = t }, step_completes world s c t (sym e) i, h)
 
-pub bytes_from : (world : World) (s : State) (bytes : ℕ → ℕ) (w : Latch Completed) → HoldsW world (Ok s) w → bytes ≡ bytes_at s (behindW world (Ok s) w) → BytesSo world s w bytes
+pub bytes_from : (world : World) (s : State) (bytes : ℕ → ℕ) (w : Latch Completed) → HoldsW world (Ok s) w → bytes ≡ bytes_at s (behindW world (Ok s) w) → BytesAgree world s w bytes
 bytes_from world s bytes (Full c) h e = bytes_by world s c bytes (after_at world s) h refl (rw h (pairs world s)) e
 bytes_from world s bytes w h e = e
 

@@ -64,14 +64,14 @@ module _ {P I D : Type 0} (instructions : Meaning I) (words : Meaning D) where
   }
 
 -- where the pipeline has stopped, the sequential machine stops at s with the same cause and address
-abbrev pub StopsSo : World → State → Option Stop → Type 0
-StopsSo world s None = Unit {0}
-StopsSo world s (Some stop) = (stop.address ≡ s.address) × (step world s ≡ Err stop.cause)
+abbrev pub StopAgrees : World → State → Option Stop → Type 0
+StopAgrees world s None = Unit {0}
+StopAgrees world s (Some stop) = (stop.address ≡ s.address) × (step world s ≡ Err stop.cause)
 
 -- the data bytes are those of s, once an instruction in W that does not fault is done too
-abbrev pub BytesSo : World → State → Latch Completed → (ℕ → ℕ) → Type 0
-BytesSo world s (Full c) bytes = (p : Step) × (step world s ≡ Ok p) × (bytes ≡ p.after.data_memory)
-BytesSo world s w bytes = bytes ≡ s.data_memory
+abbrev pub BytesAgree : World → State → Latch Completed → (ℕ → ℕ) → Type 0
+BytesAgree world s (Full c) bytes = (p : Step) × (step world s ≡ Ok p) × (bytes ≡ p.after.data_memory)
+BytesAgree world s w bytes = bytes ≡ s.data_memory
 
 abbrev pub stopped_count : Option Stop → ℕ
 stopped_count None = 0
@@ -96,8 +96,8 @@ module _ {P I D : Type 0} (table : TableOf P) (instructions : Meaning I) (words 
     pub reached : State
     pub steps : Steps (first_world first) (first_state first) (retirements h) reached
     pub registers : m.registers ≡ reached.registers
-    pub stops : StopsSo (first_world first) reached m.stopped
-    pub bytes : BytesSo (first_world first) reached m.latches.w (words.view.byte m.«data»)
+    pub stops : StopAgrees (first_world first) reached m.stopped
+    pub bytes : BytesAgree (first_world first) reached m.latches.w (words.view.byte m.«data»)
 
   -- (b) no wait is longer than the memories' longest allow
   pub record InTime (first : Core P I D) (h : List Event) : Type 0 where

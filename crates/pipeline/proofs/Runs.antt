@@ -118,25 +118,25 @@ module _ {P I D L : Type 0} (table : TableOf P) (instructions : Meaning I) (word
   pub record HeardClocks (k : ℕ) (i : L) (p : Machine P I D) : Type 0 where
     pub events : List Event
     pub steps : FreeClocks table instructions words (λ _. false) m k events p
-    pub told : Heard heard full l events i
+    pub hears : Heard heard full l events i
 
   pub none_heard : HeardClocks 0 l m
-  none_heard = record { events = []; steps = start; told = silence }
+  none_heard = record { events = []; steps = start; hears = silence }
 
   module _ (k : ℕ) (i : L) (p : Machine P I D) (cs : HeardClocks k i p) where
     -- a clock more
     pub one_heard : (j : L) (q : Machine P I D) → refusal_at (full i) p ≡ 0 → (e : Event) × Ticked table instructions words p e q × heard i e j → HeardClocks (k + 1) j q
     one_heard j q z t =
         let room = (free (full i) p z).room_left in
-        record { events = cs.events ++ t.0 ∷ []; steps = next t.0 q cs.steps (rw room at z) t.1; told = one_more t.0 j cs.told room t.2 }
+        record { events = cs.events ++ t.0 ∷ []; steps = next t.0 q cs.steps (rw room at z) t.1; hears = one_more t.0 j cs.hears room t.2 }
 
     -- the clock that is refused
     pub cut_short : (n : ℕ) (why : Refusal) → k < n → refusal_at (full i) p ≡ number why → HeardRun heard full table instructions words l m n (record { made = k; why = Some why }) i p
-    cut_short n why lt says = (cs.events, (cs.steps, ended (full i) p n k why says (inl lt)), cs.told)
+    cut_short n why lt says = (cs.events, (cs.steps, ended (full i) p n k why says (inl lt)), cs.hears)
 
     -- as many as were asked for
     pub all_made : (n : ℕ) → k ≡ n → (k ≡ 0 → refusal_at (full i) p ≡ 0) → HeardRun heard full table instructions words l m n (record { made = n; why = None }) i p
-    all_made n e f = (cs.events, (rw (← e) cs.steps, (refl, λ z. f (e ∙ z))), cs.told)
+    all_made n e f = (cs.events, (rw (← e) cs.steps, (refl, λ z. f (e ∙ z))), cs.hears)
 
   -- refused before the first
   pub at_once : (n : ℕ) (why : Refusal) → refusal_at (full l) m ≡ number why → HeardRun heard full table instructions words l m n (record { made = 0; why = Some why }) l m

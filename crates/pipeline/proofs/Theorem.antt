@@ -39,8 +39,8 @@ numbered_at n (x ∷ a) e b k = let f = numbered_at (n + 1) a e b k.1 in omega a
 
 -- ---- the entries of a call are those of its clocks
 
-told_more : (h : List Event) (put : Entries) (made : List Event) → put ≡ entries_of h → followed_by put (entries_of made) ≡ entries_of (h ++ made)
-told_more h put made w =
+heard_more : (h : List Event) (put : Entries) (made : List Event) → put ≡ entries_of h → followed_by put (entries_of made) ≡ entries_of (h ++ made)
+heard_more h put made w =
     ap (λ x. followed_by x (entries_of made)) w
     ∙ λ i. record { retired = sym (retired_after h made) i; clocks = sym (clocks_after h made) i }
 
@@ -51,7 +51,7 @@ written_more h put before after made added w e a =
     append_cancel_left before.retired.records added.retired (retired_entries made) (sym a.retired ∙ ap (λ (l : Logs). l.retired.records) e) in
     let c : added.clocks ≡ clock_entries made =
     append_cancel_left before.clocks.records added.clocks (clock_entries made) (sym a.clocks ∙ ap (λ (l : Logs). l.clocks.records) e) in
-    (λ i. followed_by put (record { retired = r i; clocks = c i })) ∙ told_more h put made w
+    (λ i. followed_by put (record { retired = r i; clocks = c i })) ∙ heard_more h put made w
 
 module _ {P I D : Type 0} (table : TableOf P) (instructions : Meaning I) (words : Meaning D) (il : Lawful instructions) (dl : Lawful words) (first : Machine P I D) where
   record Holds (h : List Event) (m : Core P I D) : Type 0 where
@@ -110,7 +110,7 @@ module _ {P I D : Type 0} (table : TableOf P) (instructions : Meaning I) (words 
       (by_clocks g (λ x. is_full (with_events before x)) p r.made es n b.0 c.0, written_more g q before after es added b.1 c.1 a)
   by_calls h put m k (run_heard {h = g} {put = q} {m = p} full count r es n cs c) =
       let b = by_calls g q p k cs in
-      (by_clocks g (λ _. false) p r.made es n b.0 c.0, told_more g q es b.1)
+      (by_clocks g (λ _. false) p r.made es n b.0 c.0, heard_more g q es b.1)
   by_calls h put m k (hold {h = g} {put = q} {m = p} r n cs c) = let b = by_calls g q p k cs in (by_hold g p r n b.0 c, b.1)
   by_calls h put m k (release {h = g} {put = q} {m = p} token r n cs c) = let b = by_calls g q p k cs in (by_release g p token r n b.0 c, b.1)
   by_calls h put m k (pause {h = g} {put = q} {m = p} r n cs c) = let b = by_calls g q p k cs in (by_pause g p r n b.0 c, b.1)

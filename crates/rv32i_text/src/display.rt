@@ -1,6 +1,6 @@
 //! Instructions and their operands as text.
 ghost use Rattle.std.specs.Prelude.{Some};
-ghost use Rattle.rv32i_text.specs.Texts.{register_text, upper_text, assembly_text};
+ghost use Rattle.rv32i_text.specs.Assembly.{register_text, upper_text, assembly_text};
 
 use crate::mnemonic::Mnemonic;
 use rv32i::instruction::Instruction;

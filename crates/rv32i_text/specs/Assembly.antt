@@ -1,5 +1,5 @@
 -- Instructions as the manual writes them. Assumes nothing.
-use Rattle.std.specs.Prelude.{ℕ, ◌/◌, ◌%◌, false, cond, List, ◌++◌, ℤ, codes, decimal, ◌==◌}
+use Rattle.std.specs.Prelude.{ℕ, ◌/◌, ◌%◌, false, if◌then◌else◌, List, ◌++◌, ℤ, codes, decimal, ◌==◌}
 use Rattle.std.specs.Fmt.{digits, signed_decimal}
 use Rattle.rv32i.specs.declared.register.Register.{Register as Reg}
 use Rattle.rv32i.specs.declared.instruction.Condition.{Condition}
@@ -71,7 +71,8 @@ register_text r = codes "x" ++ decimal r.number
 
 -- the upper twenty bits in hexadecimal; low bits that should not be there are shown after a plus sign
 abbrev pub upper_text : ℕ → List ℕ
-upper_text v = cond (v % 4096 == 0) (digits 16 false (v / 4096)) (digits 16 false (v / 4096) ++ codes "+" ++ digits 16 false (v % 4096))
+upper_text v =
+    if v % 4096 == 0 then digits 16 false (v / 4096) else digits 16 false (v / 4096) ++ codes "+" ++ digits 16 false (v % 4096)
 
 -- ---- lines
 

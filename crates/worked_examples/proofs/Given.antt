@@ -10,7 +10,7 @@ use Rattle.write_buffer.specs.WriteBuffer.{buffer_means}
 use Rattle.predictor.specs.Counting.{fresh, counted, stepped, number_of}
 use Rattle.predictor.specs.Tables.{taught}
 use Rattle.rv32i_words.specs.Words.{decoded}
-use Rattle.worked.specs.Examples.{words, instructions, counts, counts_of, taken, longest, TableGiven}
+use Rattle.worked_examples.specs.Examples.{words, instructions, counts, counts_of, taken, longest, TableGiven}
 
 -- a counter that is counted has the stepped value, and the counters stay as many
 stepped_at : (values : List ℕ) (k v : ℕ) → k < length values → get_or values k 0 ≡ v → get_or (counted values k true) k 0 ≡ stepped v true

@@ -1,19 +1,19 @@
-//! The worked examples of the documents, as one table.
+//! Theorems about examples: the definitions, and the code, give the table of worked examples of the documents.
 #![tactic(auto)]
 
 ghost use Rattle.std.specs.Prelude.{◌≡◌};
 ghost use Rattle.predictor.specs.Counting.{value_at, number_of};
 ghost use Rattle.predictor.specs.States.{counters_of};
 ghost use Rattle.predictor.specs.Tables.{taught};
-ghost use Rattle.worked.specs.Examples.{TableGiven, instructions, counts, longest, counts_of, taken};
+ghost use Rattle.worked_examples.specs.Examples.{TableGiven, instructions, counts, longest, counts_of, taken};
 
 use base::branch::Outcome;
 use memory::{Flat, Memory};
 use predictor::Predictor;
 use predictor::bimodal::Bimodal;
 use rv32i::instruction::Instruction;
-use wait_states::WaitStates;
 use rv32i_words::decoding::decode;
+use wait_states::WaitStates;
 use write_buffer::WriteBuffer;
 
 /// What the worked examples come to.
@@ -62,7 +62,7 @@ fn taken_thrice(address: u32, target: u32) -> [u8; 3]
 /// The worked examples, done by the code, for a branch at any address to any target and a flat memory of any bytes: they come to
 /// the table, and so do the definitions.
 #[tactic(auto, using(crate::proofs::Given::table_given))]
-pub fn worked_examples(address: u32, target: u32, bytes: Vec<u8>) -> Worked
+pub fn table(address: u32, target: u32, bytes: Vec<u8>) -> Worked
     ensures given { TableGiven }
     ensures instructions { result.instructions ≡ instructions }
     ensures counts { result.counts ≡ counts }

@@ -1,6 +1,6 @@
 use Rattle.std.proofs.Common.{◌∙◌}
-use Rattle.worked.proofs.Given.{counter_given}
-use Rattle.worked.proofs.worked_examples.Goals as goal
+use Rattle.worked_examples.proofs.Given.{counter_given}
+use Rattle.worked_examples.proofs.table.Goals as goal
 
 -- the target is in no term that the counters come to
 pub returns-clause-counts : goal.returns-clause-counts

@@ -4,7 +4,7 @@ ghost use Rattle.report.specs.Timings.{TimingAnswer};
 use super::assembly::assemble;
 use super::running::run_and_report;
 use base::failure::Failure;
-use listing::image::padded;
+use image::padded;
 use longrun::run::Watch;
 use setup::choice::Setup;
 use std::alloc::Global;

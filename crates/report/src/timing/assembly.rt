@@ -5,7 +5,7 @@ use crate::lines::Longest;
 use base::failure::Failure;
 use dispatch::predictors::Chosen;
 use dispatch::stack::{ChosenMemory, choose};
-use listing::image::PaddedImage;
+use image::PaddedImage;
 use memory::{Flat, Memory};
 use pipeline::machine::{Machine, check, load};
 use predictor::Predictor;

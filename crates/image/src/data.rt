@@ -1,0 +1,15 @@
+//! The data memory that a program has beside its image.
+ghost use Rattle.std.specs.Prelude.{◌≡◌, replicate, IfOk, vec_items};
+
+use memory::Flat;
+use std::alloc::{AllocError, Global};
+
+/// How many zero bytes of data a program has.
+const DATA: usize = 4096;
+
+/// A program's data memory, all zeros.
+pub fn data_memory(heap: Global) -> Result<Flat, AllocError>
+    ensures { IfOk result (λ m. (vec_items m.bytes ≡ replicate 4096 0) × (m.size ≡ 4096)) }
+{
+    Ok(Flat::new(vec![in heap; 0u8; DATA]?))
+}

@@ -12,7 +12,7 @@ use Rattle.pipeline.specs.Calls.{Loaded, retired_entries, clock_entries}
 use Rattle.pipeline.specs.Readings.{totals}
 use Rattle.pipeline.specs.Theorem.{Agrees, Entries, Calls}
 use Rattle.pipeline.specs.declared.machine.Machine.{Machine}
-use Rattle.listing.specs.Images.{padded_image, TooLong}
+use Rattle.image.specs.Images.{padded_image, TooLong}
 use Rattle.clocktable.specs.Tables.{clock_table}
 use Rattle.report.specs.Finishing.{Finished}
 

@@ -1,6 +1,6 @@
 -- The lines of a report. Assumes nothing.
 use Rattle.std.specs.Prelude.{ℕ, ◌+◌, List, [], ◌∷◌, ◌++◌, Some, None, codes, decimal, Option}
-use Rattle.listing.specs.Texts.{stop_text}
+use Rattle.seqtable.specs.Records.{stop_text}
 use Rattle.pipeline.specs.declared.machine.Totals.{Totals}
 use Rattle.sequential.specs.declared.record.Stop.{Stop}
 use Rattle.setup.specs.Predictors.{predictor_text}

@@ -13,7 +13,7 @@ use Rattle.pipeline.specs.Calls.{Loaded, load_fits, retired_entries, clock_entri
 use Rattle.pipeline.specs.Readings.{totals}
 use Rattle.pipeline.specs.Theorem.{Agrees, Entries, Calls}
 use Rattle.pipeline.specs.declared.machine.Machine.{Machine}
-use Rattle.listing.specs.Images.{padded_image, TooLong}
+use Rattle.image.specs.Images.{padded_image, TooLong}
 use Rattle.clocktable.specs.Tables.{two_tables}
 use Rattle.longrun.specs.Gaps.{none_yet, gaps_after}
 use Rattle.longrun.specs.declared.gaps.Gaps.{Gaps}

@@ -2,8 +2,8 @@
 ghost use Rattle.std.specs.Prelude.{◌≡◌, ◌+◌, IfOk, Some, string_bytes};
 ghost use Rattle.report.specs.Lines.{setup_lines, bounds_line, totals_line, gap_line, within, report_text};
 
-use listing::records::EndText;
 use pipeline::machine::Totals;
+use seqtable::records::EndText;
 use sequential::record::Stop;
 use setup::choice::Setup;
 use std::alloc::{AllocError, Global};

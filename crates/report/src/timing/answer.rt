@@ -5,7 +5,7 @@ use super::assembly::zeroed_memory;
 use super::over::run_over_stacks;
 use base::failure::Failure;
 use dispatch::stack::build;
-use listing::image::{PaddedImage, padded};
+use image::{PaddedImage, padded};
 use longrun::run::Watch;
 use setup::choice::Setup;
 use std::alloc::Global;

@@ -1,5 +1,6 @@
 -- Loads and stores find and put their own bytes. Assumes nothing.
-use Rattle.std.proofs.Common.{◌≡◌, ℕ, zero, suc, ◌+◌, ◌*◌, ◌/◌, ◌%◌, ◌^◌, ◌<◌, ◌≤◌, Bool, true, false, cond, eqb, ltb, Some, Ok, Err, refl, ap, ◌∙◌, subst, arith}
+use Rattle.std.proofs.Common.{◌≡◌, ℕ, zero, suc, ◌+◌, ◌*◌, ◌/◌, ◌%◌, ◌^◌, ◌<◌, ◌≤◌, Bool, true, false, eqb, ltb, Some, Ok, Err, refl, ap, ◌∙◌, subst, arith}
+use Rattle.std.specs.Prelude.{if◌then◌else◌}
 use Rattle.std.proofs.lemmas.Int.{ints}
 use Rattle.std.proofs.lemmas.Bool.{eqb-true}
 use Rattle.std.proofs.lemmas.Bool.Decides.{nat_tests}
@@ -26,7 +27,7 @@ by_place P a b c d (suc (suc (suc zero))) h = d
 by_place P a b c d (suc (suc (suc (suc r)))) h = absurd (omega arith)
 
 -- what is known of a request that is accepted
-accepts : (q p : Request) (misaligned outside : Cause) (b d : Bool) → cond b (cond d (Ok (Some q)) (Err outside)) (Err misaligned) ≡ Ok (Some p)
+accepts : (q p : Request) (misaligned outside : Cause) (b d : Bool) → (if b then (if d then Ok (Some q) else Err outside) else Err misaligned) ≡ Ok (Some p)
     → (b ≡ true) × (q ≡ p)
 accepts q p misaligned outside true true e = (refl, cc)
 accepts q p misaligned outside true false e = (refl, cc)

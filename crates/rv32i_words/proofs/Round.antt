@@ -1,5 +1,6 @@
 -- Decoding undoes encoding, and encoding undoes decoding. Assumes nothing.
-use Rattle.std.proofs.Common.{◌≡◌, ℕ, ◌+◌, ◌*◌, ◌/◌, ◌%◌, ◌^◌, ◌<◌, Bool, true, false, cond, eqb, ltb, [], ◌∷◌, ℤ, pos, neg_ℤ, Some, None, Ok, Err, IfOk, Option, Result, sym, refl, ap, ◌∙◌, subst, arith}
+use Rattle.std.proofs.Common.{◌≡◌, ℕ, ◌+◌, ◌*◌, ◌/◌, ◌%◌, ◌^◌, ◌<◌, Bool, true, false, eqb, ltb, [], ◌∷◌, ℤ, pos, neg_ℤ, Some, None, Ok, Err, IfOk, Option, Result, sym, refl, ap, ◌∙◌, subst, arith}
+use Rattle.std.specs.Prelude.{if◌then◌else◌}
 use lib.Pow.{split}
 use lib.Signed.{le_z, lt_z}
 use Rattle.std.proofs.lemmas.Int.{ints}
@@ -169,7 +170,7 @@ data Each (P : Option Operation → Type 0) (n : ℕ) : Column → Type 0 where
   ◌at_or◌ : {c : ℕ} {x : Option Operation} {es : Column} → (n ≡ c → P x) → Each P n es → Each P n ((c, x) ∷ es)
 
 infixr 20 ◌at_or◌
-picked_by : (P : Option Operation → Type 0) (b : Bool) (n c : ℕ) (x y : Option Operation) → eqb n c ≡ b → (n ≡ c → P x) → P y → P (cond b x y)
+picked_by : (P : Option Operation → Type 0) (b : Bool) (n c : ℕ) (x y : Option Operation) → eqb n c ≡ b → (n ≡ c → P x) → P y → P (if b then x else y)
 picked_by P true n c x y e f k = f (eqb-true n c e)
 picked_by P false n c x y e f k = k
 

@@ -11,11 +11,11 @@ loop-self-init g c = record { ran = nothing _ _ _ _; world = refl; stopped = ref
 
 pub loop-self-preserved : goal.loop-self-preserved
 loop-self-preserved g c =
-    let bytes = g.D.Memory.means.view in
+    let d_view = g.D.Memory.means.view in
     let inv = c.loop-self.invariant in
     let added = pushed c.push.result c.loop-self.log c.push.new.self c.in-Ok.retirement.retired _ c.loop-self-test.ensures c.push.ensures.says in
     let does =
-    subst (λ (w : World). Stepped w (state_of bytes c.loop-self.self) c.loop-self.self.stopped (Ok c.in-Ok.retirement) (state_of bytes c.step.new.self) c.step.new.self.stopped)
+    subst (λ (w : World). Stepped w (state_of d_view c.loop-self.self) c.loop-self.self.stopped (Ok c.in-Ok.retirement) (state_of d_view c.step.new.self) c.step.new.self.stopped)
     inv.world c.in-Ok.ensures.does in
     let next = one_more _ _ _ _ _ c.in-Ok.retirement added.1 _ _ inv.ran (rw inv.stopped at does) in
     record {
@@ -37,13 +37,13 @@ loop-self-smaller g c =
 
 pub returns-in-Err : goal.returns-in-Err
 returns-in-Err g c =
-    let bytes = g.D.Memory.means.view in
+    let d_view = g.D.Memory.means.view in
     let inv = c.loop-self.invariant in
     let does =
-    subst (λ (w : World). Stepped w (state_of bytes c.loop-self.self) c.loop-self.self.stopped (Err c.in-Err.stop) (state_of bytes c.step.new.self) c.step.new.self.stopped)
+    subst (λ (w : World). Stepped w (state_of d_view c.loop-self.self) c.loop-self.self.stopped (Err c.in-Err.stop) (state_of d_view c.step.new.self) c.step.new.self.stopped)
     inv.world c.in-Err.ensures.does in
     record {
-      does = stops_at _ _ (state_of bytes c.step.new.self) _ (room c.args.log.now) (rw inv.room at c.loop-self-test.ensures) c.in-Err.stop _ _ inv.ran (rw inv.stopped at does);
+      does = stops_at _ _ (state_of d_view c.step.new.self) _ (room c.args.log.now) (rw inv.room at c.loop-self-test.ensures) c.in-Err.stop _ _ inv.ran (rw inv.stopped at does);
       world = c.step.ensures.world ∙ inv.world;
       stopped = halts _ _ _ _ _ _ does;
       for_good = λ some. (c.in-Err.ensures.for_good (subst IsSome (sym inv.stopped) some) ∙ (inv.for_good some).0, (inv.for_good some).1);

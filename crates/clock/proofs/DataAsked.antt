@@ -16,34 +16,34 @@ use Rattle.clocking.specs.declared.stage.Flow.{Flow}
 use Rattle.clocking.specs.declared.stage.Flow.TheVariants.{RollsBack}
 use Rattle.clock.specs.Data.{DataDone}
 
-module _ {D : Type 0} (words : Meaning D) (old new : D) (w : Latch Completed) (flow : Flow) where
+module _ {D : Type 0} (data_memory : Meaning D) (old new : D) (w : Latch Completed) (flow : Flow) where
   -- M asks nothing
-  pub data_idle : (m : Latch Executed) → bus_request (data_request (words.view.size old) m) ≡ None → words.idles old new
-      → w ≡ (data_stage m (data_request (words.view.size old) m) None).w
-      → flow ≡ (data_stage m (data_request (words.view.size old) m) None).flow
-      → DataDone words m old new w flow
+  pub data_idle : (m : Latch Executed) → bus_request (data_request (data_memory.view.size old) m) ≡ None → data_memory.idles old new
+      → w ≡ (data_stage m (data_request (data_memory.view.size old) m) None).w
+      → flow ≡ (data_stage m (data_request (data_memory.view.size old) m) None).flow
+      → DataDone data_memory m old new w flow
   data_idle m e i p q = record { reply = None; asked = rw e i; fills = p; flows = q }
 
   -- M has a cause
-  pub data_faults : (e : Executed) (c : Cause) → Gives (request (words.view.size old) e.access e.result e.b) (Err c) → words.idles old new
+  pub data_faults : (e : Executed) (c : Cause) → Gives (request (data_memory.view.size old) e.access e.result e.b) (Err c) → data_memory.idles old new
       → w ≡ Faulting (record { address = e.address; cause = c }) → flow ≡ RollsBack
-      → DataDone words (Full e) old new w flow
+      → DataDone data_memory (Full e) old new w flow
   data_faults e c h i p q =
       let z = sym (given _ _ h) in
       record { reply = None; asked = rw z i; fills = rw z p; flows = rw z q }
 
   -- M uses no memory
-  pub data_free : (e : Executed) → Gives (request (words.view.size old) e.access e.result e.b) (Ok None) → words.idles old new
+  pub data_free : (e : Executed) → Gives (request (data_memory.view.size old) e.access e.result e.b) (Ok None) → data_memory.idles old new
       → w ≡ (completes_with e e.result).w → flow ≡ (completes_with e e.result).flow
-      → DataDone words (Full e) old new w flow
+      → DataDone data_memory (Full e) old new w flow
   data_free e h i p q =
       let z = sym (given _ _ h) in
       record { reply = None; asked = rw z i; fills = rw z p; flows = rw z q }
 
   -- M asks
-  pub data_asked : (e : Executed) (q : Request) (r : Reply) → Gives (request (words.view.size old) e.access e.result e.b) (Ok (Some q)) → words.serves old q r new
+  pub data_asked : (e : Executed) (q : Request) (r : Reply) → Gives (request (data_memory.view.size old) e.access e.result e.b) (Ok (Some q)) → data_memory.serves old q r new
       → w ≡ (take_reply e (Some r)).w → flow ≡ (take_reply e (Some r)).flow
-      → DataDone words (Full e) old new w flow
+      → DataDone data_memory (Full e) old new w flow
   data_asked e q r h s p z =
       let k = sym (given _ _ h) in
       record { reply = Some r; asked = rw k s; fills = rw k p; flows = rw k z }

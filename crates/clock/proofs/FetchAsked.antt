@@ -37,30 +37,30 @@ same_out o q a b =
     let at_d : Latch Fetched → FetchOut = λ y. record { f = q.f; d = y } in
     ap at_f a ∙ ap at_d b
 
-module _ {P I : Type 0} (table : TableOf P) (text : Meaning I) (p : P) (f : ℕ) (d : Latch Fetched) (redirect : Option ℕ) (old new : I) (went : FetchOut) (did : Fetching) where
+module _ {P I : Type 0} (table : TableOf P) (instructions_size : Meaning I) (p : P) (f : ℕ) (d : Latch Fetched) (redirect : Option ℕ) (old new : I) (went : FetchOut) (did : Fetching) where
   -- D does not move
-  pub fetch_passes : (flow : Flow) → fetch_request (text.view.size old) f flow ≡ Ok None → text.idles old new
+  pub fetch_passes : (flow : Flow) → fetch_request (instructions_size.view.size old) f flow ≡ Ok None → instructions_size.idles old new
       → went ≡ fetch_stage f d flow (Ok None) None redirect → did.fetched ≡ false → did.waits ≡ false
-      → FetchDone table text p f d flow redirect old new went did
+      → FetchDone table instructions_size p f d flow redirect old new went did
   fetch_passes flow e i w h k = record { answer = None; asked = rw e i; goes = rw e w; fetched = rw e h; waits = k }
 
-  fetching_by : (r : Result Unit Cause) → Gives (fetchable (text.view.size old) f) r → fetch_request (text.view.size old) f Moves ≡ asked_if_so f r
-  fetching_by r h = asked_so f (f % 4 == 0) (nat_lt f (text.view.size old)) ∙ ap (asked_if_so f) (sym (given _ _ h))
+  fetching_by : (r : Result Unit Cause) → Gives (fetchable (instructions_size.view.size old) f) r → fetch_request (instructions_size.view.size old) f Moves ≡ asked_if_so f r
+  fetching_by r h = asked_so f (f % 4 == 0) (nat_lt f (instructions_size.view.size old)) ∙ ap (asked_if_so f) (sym (given _ _ h))
 
   -- F has a cause
-  pub fetch_faults : (c : Cause) → Gives (fetchable (text.view.size old) f) (Err c) → text.idles old new
+  pub fetch_faults : (c : Cause) → Gives (fetchable (instructions_size.view.size old) f) (Err c) → instructions_size.idles old new
       → went ≡ record { f = following f; d = Faulting (record { address = f; cause = c }) }
       → did.fetched ≡ true → did.waits ≡ false
-      → FetchDone table text p f d Moves redirect old new went did
+      → FetchDone table instructions_size p f d Moves redirect old new went did
   fetch_faults c h i w k z =
       let e = fetching_by (Err c) h in
       record { answer = None; asked = rw e i; goes = rw e w; fetched = rw e k; waits = z }
 
   -- the word at F is asked for
-  pub fetch_asked : (r : Reply) → Gives (fetchable (text.view.size old) f) (Ok tt) → text.serves old (Read f) r new
+  pub fetch_asked : (r : Reply) → Gives (fetchable (instructions_size.view.size old) f) (Ok tt) → instructions_size.serves old (Read f) r new
       → went.f ≡ (fill_d f (arrival table p f (Some r))).f → went.d ≡ (fill_d f (arrival table p f (Some r))).d
       → did.fetched ≡ is_some (arrival table p f (Some r)) → did.waits ≡ is_wait (Some r)
-      → FetchDone table text p f d Moves redirect old new went did
+      → FetchDone table instructions_size p f d Moves redirect old new went did
   fetch_asked r h s a b k z =
       let e = fetching_by (Ok tt) h in
       record { answer = Some r; asked = rw e s; goes = rw e (same_out went (fill_d f (arrival table p f (Some r))) a b); fetched = rw e k; waits = z }

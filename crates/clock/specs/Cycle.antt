@@ -27,15 +27,15 @@ decode_after by-data by-execute m w g k =
 abbrev pub with_x : Latches → Latch Decoded → Latches
 with_x k x = record k { x = x }
 
-module _ {P I D L : Type 0} (table : TableOf P) (instructions : Meaning I) (words : Meaning D) (heard : L → Event → L → Type 0) (full : L → Bool) where
+module _ {P I D L : Type 0} (table : TableOf P) (instructions : Meaning I) (data_memory : Meaning D) (heard : L → Event → L → Type 0) (full : L → Bool) where
   -- a clock was made: it is the one that the rule has, keeps the laws, and is heard by a listener
   -- that is not full
   pub record Made (m : Core P I D) (before : L) (n : Core P I D) (after : L) : Type 0 where
     pub not_stopped : m.stopped ≡ None
     pub not_spent : m.counts.clocks < 4294967295
     pub event : Event
-    pub cycled : Cycled table instructions words m event n
-    pub laws : ClockLaws table instructions words m event n
+    pub cycled : Cycled table instructions data_memory m event n
+    pub laws : ClockLaws table instructions data_memory m event n
     pub hears : full before ≡ false → heard before event after
 
   -- none was: the core has stopped or has made all its clocks, and nothing is altered

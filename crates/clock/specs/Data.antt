@@ -9,9 +9,9 @@ use Rattle.clocking.specs.declared.latch.Latch.{Latch}
 use Rattle.clocking.specs.declared.stage.Flow.{Flow}
 
 -- the data stage on m takes the memory from old to new, fills W with w, and flow is that of M
-pub record DataDone {D : Type 0} (words : Meaning D) (m : Latch Executed) (old new : D)
+pub record DataDone {D : Type 0} (data_memory : Meaning D) (m : Latch Executed) (old new : D)
     (w : Latch Completed) (flow : Flow) : Type 0 where
   pub reply : Option Reply
-  pub asked : Asked words old (bus_request (data_request (words.view.size old) m)) reply new
-  pub fills : w ≡ (data_stage m (data_request (words.view.size old) m) reply).w
-  pub flows : flow ≡ (data_stage m (data_request (words.view.size old) m) reply).flow
+  pub asked : Asked data_memory old (bus_request (data_request (data_memory.view.size old) m)) reply new
+  pub fills : w ≡ (data_stage m (data_request (data_memory.view.size old) m) reply).w
+  pub flows : flow ≡ (data_stage m (data_request (data_memory.view.size old) m) reply).flow

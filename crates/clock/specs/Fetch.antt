@@ -17,13 +17,13 @@ fetchable size f =
     if f % 4 == 0 then (if nat_lt f size then Ok tt else Err InstructionAccessFault) else Err InstructionMisaligned
 
 -- the fetch stage at f with d in D takes the memory from old to new, and went is F and D then
-pub record FetchDone {P I : Type 0} (table : TableOf P) (text : Meaning I) (p : P) (f : ℕ)
+pub record FetchDone {P I : Type 0} (table : TableOf P) (instructions : Meaning I) (p : P) (f : ℕ)
     (d : Latch Fetched) (flow : Flow) (redirect : Option ℕ) (old new : I) (went : FetchOut)
     (did : Fetching) : Type 0 where
   pub answer : Option Reply
-  pub asked : Asked text old (bus_request (fetch_request (text.view.size old) f flow)) answer new
-  pub goes : went ≡ fetch_stage f d flow (fetch_request (text.view.size old) f flow)
+  pub asked : Asked instructions old (bus_request (fetch_request (instructions.view.size old) f flow)) answer new
+  pub goes : went ≡ fetch_stage f d flow (fetch_request (instructions.view.size old) f flow)
       (arrival table p f answer) redirect
-  pub fetched : did.fetched ≡ has_fetched (fetch_request (text.view.size old) f flow)
+  pub fetched : did.fetched ≡ has_fetched (fetch_request (instructions.view.size old) f flow)
       (arrival table p f answer)
   pub waits : did.waits ≡ is_wait answer

@@ -38,8 +38,8 @@ fn if_rolled<T: Copy>(flow: Flow, latch: &Latch<T>) -> u32
 
 /// How many instructions are dropped: a rollback from data drops X, and any rollback D.
 #[inline(always)]
-pub fn dropped_count(latches: &Latches, data: Flow, execute: Flow) -> u32
-    ensures { result ≡ dropped_count latches.now «data» execute }
+pub fn dropped_count(latches: &Latches, completes: Flow, execute: Flow) -> u32
+    ensures { result ≡ dropped_count latches.now completes execute }
 {
-    if_rolled(data, &latches.x) + if_rolled(execute, &latches.d)
+    if_rolled(completes, &latches.x) + if_rolled(execute, &latches.d)
 }

@@ -52,7 +52,7 @@ fn halt<P: Predictor, I: Memory, D: Memory, L: Listener>(
         × Halted P.Predictor.table I.Memory.means D.Memory.means stop core.old e core.new
         × (L.Listener.full listener.old ≡ false → L.Listener.heard listener.old e listener.new) }
 {
-    core.data.idle();
+    core.data_memory.idle();
     core.instructions.idle();
     core.stopped = Some(stop);
     count(&mut core.counts, false, false, 0);
@@ -115,7 +115,7 @@ fn advance<P: Predictor, I: Memory, D: Memory, L: Listener>(
     let m = rd_of(&core.latches.m);
     let w = Written::of(&core.latches.w);
 
-    let completes = data_stage(&mut core.data, &core.latches.m, &mut core.latches.w);
+    let completes = data_stage(&mut core.data_memory, &core.latches.m, &mut core.latches.w);
     let executes = execute_stage(&core.latches.x, completes, &mut core.latches.m);
     let gone = dropped_count(&core.latches, completes, executes.flow);
     let decodes = decode(

@@ -68,23 +68,27 @@ fn after_write(e: &Executed, answer: Result<(), Unserved>, w: &mut Latch<Complet
 /// of M, or idles.
 #[inline(always)]
 #[tactic(auto, using(crate::proofs::DataAsked::data_idle, crate::proofs::DataAsked::data_faults, crate::proofs::DataAsked::data_free, crate::proofs::DataAsked::data_asked))]
-pub fn data_stage<D: Memory>(data: &mut D, m: &Latch<Executed>, w: &mut Latch<Completed>) -> Flow
-    ensures { DataDone D.Memory.means m.now «data».old «data».new w.new result }
+pub fn data_stage<D: Memory>(
+    data_memory: &mut D,
+    m: &Latch<Executed>,
+    w: &mut Latch<Completed>,
+) -> Flow
+    ensures { DataDone D.Memory.means m.now data_memory.old data_memory.new w.new result }
 {
     match m {
         Latch::Empty => {
-            data.idle();
+            data_memory.idle();
             *w = Latch::Empty;
             Flow::Moves
         }
         Latch::Faulting(stop) => {
-            data.idle();
+            data_memory.idle();
             *w = Latch::Faulting(*stop);
             Flow::RollsBack
         }
-        Latch::Full(e) => match request(data.size(), e.access, e.result, e.b) {
+        Latch::Full(e) => match request(data_memory.size(), e.access, e.result, e.b) {
             Err(cause) => {
-                data.idle();
+                data_memory.idle();
                 *w = Latch::Faulting(Stop {
                     address: e.address,
                     cause,
@@ -92,10 +96,10 @@ pub fn data_stage<D: Memory>(data: &mut D, m: &Latch<Executed>, w: &mut Latch<Co
                 Flow::RollsBack
             }
             Ok(None) => {
-                data.idle();
+                data_memory.idle();
                 complete(e, e.result, w)
             }
-            Ok(Some(Request::Read { address })) => after_read(e, data.read(address), w),
+            Ok(Some(Request::Read { address })) => after_read(e, data_memory.read(address), w),
             Ok(
                 Some(
                     Request::Write {
@@ -104,7 +108,7 @@ pub fn data_stage<D: Memory>(data: &mut D, m: &Latch<Executed>, w: &mut Latch<Co
                         lanes,
                     },
                 ),
-            ) => after_write(e, data.write(address, word, lanes), w),
+            ) => after_write(e, data_memory.write(address, word, lanes), w),
         },
     }
 }

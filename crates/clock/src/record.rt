@@ -43,11 +43,11 @@ pub const STOP: Notes = Notes {
 
 /// The notes of a clock that moves on, by the flows of M, X and D and whether the instruction memory said Wait. A hazard
 /// keeps D where X moves.
-pub fn notes(data: Flow, execute: Flow, decode: Flow, fetch_wait: bool) -> Notes
+pub fn notes(completes: Flow, execute: Flow, decode: Flow, fetch_wait: bool) -> Notes
     ensures { result ≡ record {
       fetch_wait = fetch_wait;
       hazard = moves execute && stalls decode;
-      data_wait = stalls «data»;
+      data_wait = stalls completes;
       rollback = rolls_back decode;
       stop = false;
     } }
@@ -55,7 +55,7 @@ pub fn notes(data: Flow, execute: Flow, decode: Flow, fetch_wait: bool) -> Notes
     Notes {
         fetch_wait,
         hazard: execute == Flow::Moves && decode == Flow::Stalls,
-        data_wait: data == Flow::Stalls,
+        data_wait: completes == Flow::Stalls,
         rollback: decode == Flow::RollsBack,
         stop: false,
     }

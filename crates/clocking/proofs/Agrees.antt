@@ -23,7 +23,7 @@ use Rattle.clocking.specs.declared.latch.Latches.{Latches}
 use Rattle.clocking.proofs.Balance.{clock_balance, dropped_most}
 use Rattle.clocking.proofs.Chain.{Flows, Chain, HoldsW}
 use Rattle.clocking.proofs.Countdown.{Memories, Waits, count, Lulled, Clock, Down, down, lulls, least_one, at_first}
-use Rattle.clocking.proofs.Fetch.{arrives_so, text_kept}
+use Rattle.clocking.proofs.Fetch.{arrives_so, instructions_kept}
 use Rattle.clocking.proofs.Histories.{retirements_more, length_more, retired_more, taught_more}
 use Rattle.clocking.proofs.Keeps.{clock_keeps}
 use Rattle.clocking.proofs.WriteBack.{Retires, steps_on, bytes_from, flows_if, faulting_if, retires_count}
@@ -38,25 +38,25 @@ budget bound before after l Empty b e d o k = (λ z. omega arith, rw e (omega ar
 budget bound before after l (Faulting stop) b e d o k = absurd d
 budget bound before after l (Full c) b e d o k = (λ z. cc, rw e d)
 
-module _ {P I D : Type 0} (table : TableOf P) (instructions : Meaning I) (words : Meaning D) (il : Lawful instructions) (dl : Lawful words) (first : Core P I D) where
+module _ {P I D : Type 0} (table : TableOf P) (instructions : Meaning I) (data_memory : Meaning D) (il : Lawful instructions) (dl : Lawful data_memory) (first : Core P I D) where
   abbrev world : World
-  world = world_of instructions words first
+  world = world_of instructions data_memory first
 
   abbrev start : State
-  start = state_of instructions words first
+  start = state_of instructions data_memory first
 
   -- the longest waits of the instruction and of the data memory
   abbrev wi : ℕ
   wi = instructions.view.longest first.instructions
 
   abbrev wd : ℕ
-  wd = words.view.longest first.«data»
+  wd = data_memory.view.longest first.data_memory
 
   abbrev fixed : Memories
-  fixed = record { data_size = world.data_size; text_size = world.instructions_size; data_longest = wd; text_longest = wi }
+  fixed = record { data_size = world.data_size; instructions_size = world.instructions_size; data_longest = wd; instructions_longest = wi }
 
   abbrev waits : Core P I D → Waits
-  waits m = record { of_data = words.view.waits m.«data»; of_text = instructions.view.waits m.instructions }
+  waits m = record { of_data = data_memory.view.waits m.data_memory; of_instructions = instructions.view.waits m.instructions }
 
   -- how many clocks a retirement allows, and the start; and how many are left after the history
   abbrev bound : ℕ
@@ -70,7 +70,7 @@ module _ {P I D : Type 0} (table : TableOf P) (instructions : Meaning I) (words 
 
   -- what holds of a machine that has not stopped
   record Live (h : List Event) (s : State) (m : Core P I D) : Type 0 where
-    chain : Chain world s (words.view.byte m.«data») m.registers m.latches
+    chain : Chain world s (data_memory.view.byte m.data_memory) m.registers m.latches
     lull : Lulled fixed (waits m) m.latches
     in_budget : count fixed (waits m) m.latches ≤ allowed h
 
@@ -83,44 +83,44 @@ module _ {P I D : Type 0} (table : TableOf P) (instructions : Meaning I) (words 
     steps : Steps world start (retirements h) reached
     registers : m.registers ≡ reached.registers
     stops : StopAgrees world reached m.stopped
-    bytes : BytesAgree world reached m.latches.w (words.view.byte m.«data»)
+    bytes : BytesAgree world reached m.latches.w (data_memory.view.byte m.data_memory)
     live : LiveIf m.stopped h reached m
-    data_size : words.view.size m.«data» ≡ world.data_size
-    text_size : instructions.view.size m.instructions ≡ world.instructions_size
-    text : instructions.view.byte m.instructions ≡ world.instructions
-    data_longest : words.view.longest m.«data» ≡ wd
-    text_longest : instructions.view.longest m.instructions ≡ wi
+    data_size : data_memory.view.size m.data_memory ≡ world.data_size
+    instructions_size : instructions.view.size m.instructions ≡ world.instructions_size
+    instructions_bytes : instructions.view.byte m.instructions ≡ world.instructions
+    data_longest : data_memory.view.longest m.data_memory ≡ wd
+    instructions_longest : instructions.view.longest m.instructions ≡ wi
     paced : Paced bound first_bound h
-    accounted : Accounted table instructions words first h m
+    accounted : Accounted table instructions data_memory first h m
 
   -- ---- a clock in which the machine goes on
 
   -- what a clock does where the sizes of the memories and the register file are known
-  record Goes (size text : ℕ) (g : Registers) (m : Core P I D) (e : Event) (n : Core P I D) : Type 0 where
+  record Goes (size instructions_size : ℕ) (g : Registers) (m : Core P I D) (e : Event) (n : Core P I D) : Type 0 where
     reply : Option Reply
     answer : Option Reply
     taught : Taught table m.predictor (outcome_of (retirement_of m.latches.w)) n.predictor
-    data_served : Bytes size (bus_request (data_request size m.latches.m)) reply (words.view.byte m.«data») (words.view.byte n.«data»)
-    data_worn : Worn reply (bus_request (data_request size m.latches.m)) (words.view.waits m.«data») (words.view.waits n.«data»)
-    data_size : words.view.size n.«data» ≡ size
-    data_longest : words.view.longest n.«data» ≡ words.view.longest m.«data»
-    text_served : Bytes text (bus_request (plans size text g m.latches reply)) answer (instructions.view.byte m.instructions) (instructions.view.byte n.instructions)
-    text_worn : Worn answer (bus_request (plans size text g m.latches reply)) (instructions.view.waits m.instructions) (instructions.view.waits n.instructions)
-    text_size : instructions.view.size n.instructions ≡ text
-    text_longest : instructions.view.longest n.instructions ≡ instructions.view.longest m.instructions
+    data_served : Bytes size (bus_request (data_request size m.latches.m)) reply (data_memory.view.byte m.data_memory) (data_memory.view.byte n.data_memory)
+    data_worn : Worn reply (bus_request (data_request size m.latches.m)) (data_memory.view.waits m.data_memory) (data_memory.view.waits n.data_memory)
+    data_size : data_memory.view.size n.data_memory ≡ size
+    data_longest : data_memory.view.longest n.data_memory ≡ data_memory.view.longest m.data_memory
+    instructions_served : Bytes instructions_size (bus_request (plans size instructions_size g m.latches reply)) answer (instructions.view.byte m.instructions) (instructions.view.byte n.instructions)
+    instructions_worn : Worn answer (bus_request (plans size instructions_size g m.latches reply)) (instructions.view.waits m.instructions) (instructions.view.waits n.instructions)
+    same_size : instructions.view.size n.instructions ≡ instructions_size
+    instructions_longest : instructions.view.longest n.instructions ≡ instructions.view.longest m.instructions
     registers : n.registers ≡ g
-    latches : n.latches ≡ latches_after size text g m.latches reply (arrival table n.predictor m.latches.f answer)
+    latches : n.latches ≡ latches_after size instructions_size g m.latches reply (arrival table n.predictor m.latches.f answer)
     runs_on : n.stopped ≡ None
-    counted : Counted m.counts (has_fetched (plans size text g m.latches reply) (arrival table n.predictor m.latches.f answer)) (is_some (retirement_of m.latches.w))
+    counted : Counted m.counts (has_fetched (plans size instructions_size g m.latches reply) (arrival table n.predictor m.latches.f answer)) (is_some (retirement_of m.latches.w))
         (dropped_count m.latches (completes size m.latches reply).flow (executes size m.latches reply).flow) n.counts
     retirement : e.retirement ≡ retirement_of m.latches.w
     not_stop : e.clock.notes.stop ≡ false
 
-  goes : (m : Core P I D) (e : Event) (n : Core P I D) → Moved table instructions words m e n
-      → Goes (words.view.size m.«data») (instructions.view.size m.instructions) n.registers m e n
+  goes : (m : Core P I D) (e : Event) (n : Core P I D) → Moved table instructions data_memory m e n
+      → Goes (data_memory.view.size m.data_memory) (instructions.view.size m.instructions) n.registers m e n
   goes m e n h =
-      let a = link words dl (bus_request (data_request (words.view.size m.«data») m.latches.m)) h.reply m.«data» n.«data» h.data_asked in
-      let b = link instructions il (bus_request (plans (words.view.size m.«data») (instructions.view.size m.instructions) n.registers m.latches h.reply)) h.answer m.instructions n.instructions h.text_asked in
+      let a = link data_memory dl (bus_request (data_request (data_memory.view.size m.data_memory) m.latches.m)) h.reply m.data_memory n.data_memory h.data_asked in
+      let b = link instructions il (bus_request (plans (data_memory.view.size m.data_memory) (instructions.view.size m.instructions) n.registers m.latches h.reply)) h.answer m.instructions n.instructions h.instructions_asked in
       record {
         reply = h.reply;
         answer = h.answer;
@@ -129,10 +129,10 @@ module _ {P I D : Type 0} (table : TableOf P) (instructions : Meaning I) (words 
         data_worn = a.worn;
         data_size = a.size;
         data_longest = a.longest;
-        text_served = b.served;
-        text_worn = b.worn;
-        text_size = b.size;
-        text_longest = b.longest;
+        instructions_served = b.served;
+        instructions_worn = b.worn;
+        same_size = b.size;
+        instructions_longest = b.longest;
         registers = refl;
         latches = h.latches;
         runs_on = h.runs_on;
@@ -141,12 +141,12 @@ module _ {P I D : Type 0} (table : TableOf P) (instructions : Meaning I) (words 
         not_stop = ap (λ (e : Event). e.clock.notes.stop) h.event;
       }
 
-  known : (h : List Event) (m : Core P I D) (e : Event) (n : Core P I D) → Kept h m → Moved table instructions words m e n
+  known : (h : List Event) (m : Core P I D) (e : Event) (n : Core P I D) → Kept h m → Moved table instructions data_memory m e n
       → Goes world.data_size world.instructions_size (write_back m.registers m.latches.w) m e n
   known h m e n k w =
       subst (λ (z : ℕ). Goes z world.instructions_size (write_back m.registers m.latches.w) m e n) k.data_size
-      (subst (λ (z : ℕ). Goes (words.view.size m.«data») z (write_back m.registers m.latches.w) m e n) k.text_size
-      (subst (λ (z : Registers). Goes (words.view.size m.«data») (instructions.view.size m.instructions) z m e n) w.registers (goes m e n w)))
+      (subst (λ (z : ℕ). Goes (data_memory.view.size m.data_memory) z (write_back m.registers m.latches.w) m e n) k.instructions_size
+      (subst (λ (z : Registers). Goes (data_memory.view.size m.data_memory) (instructions.view.size m.instructions) z m e n) w.registers (goes m e n w)))
 
   module _ (h : List Event) (m : Core P I D) (e : Event) (n : Core P I D) (k : Kept h m) (l : Live h k.reached m) (flows : Flows m.latches.w)
       (w : Goes world.data_size world.instructions_size (write_back m.registers m.latches.w) m e n) where
@@ -159,11 +159,11 @@ module _ {P I D : Type 0} (table : TableOf P) (instructions : Meaning I) (words 
     abbrev next : Latches
     next = latches_after world.data_size world.instructions_size g m.latches w.reply arrives
 
-    onward : (t : State) × Retires world k.reached m.latches.w t × Chain world t (words.view.byte n.«data») g next
+    onward : (t : State) × Retires world k.reached m.latches.w t × Chain world t (data_memory.view.byte n.data_memory) g next
     onward =
-        clock_keeps world k.reached (words.view.byte m.«data») (words.view.byte n.«data») (instructions.view.byte n.instructions) m.registers m.latches w.reply w.answer
+        clock_keeps world k.reached (data_memory.view.byte m.data_memory) (data_memory.view.byte n.data_memory) (instructions.view.byte n.instructions) m.registers m.latches w.reply w.answer
         arrives l.chain flows w.data_served
-        (subst (λ (z : ℕ → ℕ). Bytes world.instructions_size (bus_request (plans world.data_size world.instructions_size g m.latches w.reply)) w.answer z (instructions.view.byte n.instructions)) k.text w.text_served)
+        (subst (λ (z : ℕ → ℕ). Bytes world.instructions_size (bus_request (plans world.data_size world.instructions_size g m.latches w.reply)) w.answer z (instructions.view.byte n.instructions)) k.instructions_bytes w.instructions_served)
         (arrives_so table n.predictor m.latches.f w.answer)
 
     abbrev clock : Clock table fixed
@@ -172,13 +172,13 @@ module _ {P I D : Type 0} (table : TableOf P) (instructions : Meaning I) (words 
       predictor = n.predictor;
       reply = w.reply;
       answer = w.answer;
-      text_before = instructions.view.byte m.instructions;
-      text_after = instructions.view.byte n.instructions;
+      instructions_before = instructions.view.byte m.instructions;
+      instructions_after = instructions.view.byte n.instructions;
       before = waits m;
       after = waits n;
-      data_patient = λ q. rw k.data_longest at (dl.patient m.«data» q);
-      data_still_patient = λ q. rw (w.data_longest ∙ k.data_longest) at (dl.patient n.«data» q);
-      text_patient = λ q. rw k.text_longest at (il.patient m.instructions q);
+      data_patient = λ q. rw k.data_longest at (dl.patient m.data_memory q);
+      data_still_patient = λ q. rw (w.data_longest ∙ k.data_longest) at (dl.patient n.data_memory q);
+      instructions_patient = λ q. rw k.instructions_longest at (il.patient m.instructions q);
     }
 
     -- the countdown after the clock
@@ -186,10 +186,10 @@ module _ {P I D : Type 0} (table : TableOf P) (instructions : Meaning I) (words 
     ends = count fixed (waits n) next
 
     falls : Down bound m.latches.w (count fixed (waits m) m.latches) ends
-    falls = down table fixed clock m.latches flows w.data_worn (w.text_served, w.text_worn) l.lull
+    falls = down table fixed clock m.latches flows w.data_worn (w.instructions_served, w.instructions_worn) l.lull
 
     lull_next : Lulled fixed (waits n) next
-    lull_next = lulls table fixed clock m.latches (w.text_served, w.text_worn)
+    lull_next = lulls table fixed clock m.latches (w.instructions_served, w.instructions_worn)
 
     produces : productive e ≡ is_some (retirement_of m.latches.w)
     produces = rw (w.retirement, w.not_stop) (or-false (is_some (retirement_of m.latches.w)))
@@ -197,14 +197,14 @@ module _ {P I D : Type 0} (table : TableOf P) (instructions : Meaning I) (words 
     abbrev budgeted : (productive e ≡ false → 2 ≤ allowed h) × (ends ≤ cond (productive e) bound (allowed h - 1))
     budgeted = budget bound (count fixed (waits m) m.latches) ends (allowed h) m.latches.w (productive e) produces falls (least_one fixed (waits n) next) l.in_budget
 
-    live_next : (t : State) → Chain world t (words.view.byte n.«data») g next → Live (h ++ e ∷ []) t n
+    live_next : (t : State) → Chain world t (data_memory.view.byte n.data_memory) g next → Live (h ++ e ∷ []) t n
     live_next t c = record {
       chain = rw (w.registers, w.latches) c;
       lull = rw w.latches lull_next;
       in_budget = rw (w.latches, left_more bound first_bound h e) budgeted.1;
     }
 
-    accounted_next : m.stopped ≡ None → m.counts.clocks < 4294967295 → Accounted table instructions words first (h ++ e ∷ []) n
+    accounted_next : m.stopped ≡ None → m.counts.clocks < 4294967295 → Accounted table instructions data_memory first (h ++ e ∷ []) n
     accounted_next runs spent =
         let a = k.accounted in
         let b = clock_balance world.data_size world.instructions_size g m.latches w.reply arrives in
@@ -231,16 +231,16 @@ module _ {P I D : Type 0} (table : TableOf P) (instructions : Meaning I) (words 
       steps = rw (retirements_more h e, w.retirement) (steps_on world start k.reached t m.latches.w (retirements h) k.steps r);
       registers = live.chain.registers;
       stops = rw w.runs_on tt;
-      bytes = bytes_from world t (words.view.byte n.«data») n.latches.w live.chain.w live.chain.memory;
+      bytes = bytes_from world t (data_memory.view.byte n.data_memory) n.latches.w live.chain.w live.chain.memory;
       live = subst (λ (z : Option Stop). LiveIf z (h ++ e ∷ []) t n) (sym w.runs_on) live;
       data_size = w.data_size;
-      text_size = w.text_size;
-      text =
-          text_kept world.instructions_size m.latches.f (decodes world.data_size g m.latches w.reply).flow w.answer (instructions.view.byte m.instructions)
-          (instructions.view.byte n.instructions) w.text_served
-          ∙ k.text;
+      instructions_size = w.same_size;
+      instructions_bytes =
+          instructions_kept world.instructions_size m.latches.f (decodes world.data_size g m.latches w.reply).flow w.answer (instructions.view.byte m.instructions)
+          (instructions.view.byte n.instructions) w.instructions_served
+          ∙ k.instructions_bytes;
       data_longest = w.data_longest ∙ k.data_longest;
-      text_longest = w.text_longest ∙ k.text_longest;
+      instructions_longest = w.instructions_longest ∙ k.instructions_longest;
       paced = paced_more bound first_bound h e k.paced budgeted.0;
       accounted = accounted_next runs spent;
     }
@@ -251,12 +251,12 @@ module _ {P I D : Type 0} (table : TableOf P) (instructions : Meaning I) (words 
   -- ---- the clock in which it stops
 
   kept_halted : (h : List Event) (m : Core P I D) (e : Event) (n : Core P I D) (stop : Stop) (k : Kept h m) → Live h k.reached m → m.latches.w ≡ Faulting stop
-      → m.stopped ≡ None → m.counts.clocks < 4294967295 → Halted table instructions words stop m e n → Kept (h ++ e ∷ []) n
+      → m.stopped ≡ None → m.counts.clocks < 4294967295 → Halted table instructions data_memory stop m e n → Kept (h ++ e ∷ []) n
   kept_halted h m e n stop k l fault runs spent w =
       let a = k.accounted in
       let here : HoldsW world (Ok k.reached) (Faulting stop) = rw fault at l.chain.w in
-      let bytes : BytesAgree world k.reached (Faulting stop) (words.view.byte m.«data») = subst (λ z. BytesAgree world k.reached z (words.view.byte m.«data»)) fault k.bytes in
-      let i = il.idle _ _ w.text_idle in
+      let bytes : BytesAgree world k.reached (Faulting stop) (data_memory.view.byte m.data_memory) = subst (λ z. BytesAgree world k.reached z (data_memory.view.byte m.data_memory)) fault k.bytes in
+      let i = il.idle _ _ w.instructions_idle in
       let j = dl.idle _ _ w.data_idle in
       let none : e.retirement ≡ None = ap (λ (e : Event). e.retirement) w.event in
       let stops : e.clock.notes.stop ≡ true = ap (λ (e : Event). e.clock.notes.stop) w.event in
@@ -277,10 +277,10 @@ module _ {P I D : Type 0} (table : TableOf P) (instructions : Meaning I) (words 
         bytes = rw w.latches (fun_ext j.byte ∙ bytes);
         live = subst (λ (z : Option Stop). LiveIf z (h ++ e ∷ []) k.reached n) (sym w.stops) tt;
         data_size = j.size ∙ k.data_size;
-        text_size = i.size ∙ k.text_size;
-        text = fun_ext i.byte ∙ k.text;
+        instructions_size = i.size ∙ k.instructions_size;
+        instructions_bytes = fun_ext i.byte ∙ k.instructions_bytes;
         data_longest = j.longest ∙ k.data_longest;
-        text_longest = i.longest ∙ k.text_longest;
+        instructions_longest = i.longest ∙ k.instructions_longest;
         paced = paced_more bound first_bound h e k.paced (λ z. cc);
         accounted = record {
           taught = taught_more table first.predictor m.predictor n.predictor h e a.taught (rw none w.same_predictor);
@@ -293,16 +293,16 @@ module _ {P I D : Type 0} (table : TableOf P) (instructions : Meaning I) (words 
   -- ---- every clock, from the first
 
   cycled_by : (h : List Event) (m : Core P I D) (e : Event) (n : Core P I D) (o : Option Stop) → stop_of m.latches.w ≡ o → (k : Kept h m) → Live h k.reached m → m.stopped ≡ None
-      → m.counts.clocks < 4294967295 → Worked table instructions words o m e n → Kept (h ++ e ∷ []) n
+      → m.counts.clocks < 4294967295 → Worked table instructions data_memory o m e n → Kept (h ++ e ∷ []) n
   cycled_by h m e n None i k l runs spent w = kept_going h m e n k l (flows_if m.latches.w i) (known h m e n k w) runs spent
   cycled_by h m e n (Some stop) i k l runs spent w = kept_halted h m e n stop k l (faulting_if m.latches.w stop i) runs spent w
 
-  pub kept_cycle : (h : List Event) (m : Core P I D) (e : Event) (n : Core P I D) → Kept h m → m.stopped ≡ None → m.counts.clocks < 4294967295 → Cycled table instructions words m e n
+  pub kept_cycle : (h : List Event) (m : Core P I D) (e : Event) (n : Core P I D) → Kept h m → m.stopped ≡ None → m.counts.clocks < 4294967295 → Cycled table instructions data_memory m e n
       → Kept (h ++ e ∷ []) n
   kept_cycle h m e n k runs spent w =
       cycled_by h m e n (stop_of m.latches.w) refl k (subst (λ (z : Option Stop). LiveIf z h k.reached m) runs k.live) runs spent w
 
-  pub kept_agrees : (h : List Event) (m : Core P I D) → Kept h m → Agreement table instructions words first h m
+  pub kept_agrees : (h : List Event) (m : Core P I D) → Kept h m → Agreement table instructions data_memory first h m
   kept_agrees h m k = record {
     sequentially = record { reached = k.reached; steps = k.steps; registers = k.registers; stops = k.stops; bytes = k.bytes };
     in_time = record {
@@ -339,10 +339,10 @@ module _ {P I D : Type 0} (table : TableOf P) (instructions : Meaning I) (words 
     bytes = rw z.latches refl;
     live = subst (λ (o : Option Stop). LiveIf o [] start first) (sym z.stopped) (first_live z);
     data_size = refl;
-    text_size = refl;
-    text = refl;
+    instructions_size = refl;
+    instructions_bytes = refl;
     data_longest = refl;
-    text_longest = refl;
+    instructions_longest = refl;
     paced = tt;
     accounted = record {
       taught = refl;

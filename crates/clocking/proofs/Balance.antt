@@ -82,24 +82,24 @@ placed_balance : (f : ℕ) (asked : Result (Option Request) Cause) (x : Option F
 placed_balance f (Ok (Some q)) None = refl
 placed_balance f asked x = refl
 
-fetch_balance : (text f : ℕ) (d : Latch Fetched) (flow : Flow) (x : Option Fetched) (u : Option ℕ)
-    → occupancy (fetch_stage f d flow (fetch_request text f flow) x u).d ≡ staying flow d + one_if (has_fetched (fetch_request text f flow) x)
-fetch_balance text f d RollsBack x u = refl
-fetch_balance text f d Stalls x u = omega arith
-fetch_balance text f d Moves x u = let k = placed_balance f (fetch_request text f Moves) x in omega arith
+fetch_balance : (instructions_size f : ℕ) (d : Latch Fetched) (flow : Flow) (x : Option Fetched) (u : Option ℕ)
+    → occupancy (fetch_stage f d flow (fetch_request instructions_size f flow) x u).d ≡ staying flow d + one_if (has_fetched (fetch_request instructions_size f flow) x)
+fetch_balance instructions_size f d RollsBack x u = refl
+fetch_balance instructions_size f d Stalls x u = omega arith
+fetch_balance instructions_size f d Moves x u = let k = placed_balance f (fetch_request instructions_size f Moves) x in omega arith
 
-module _ (size text : ℕ) (g : Registers) (k : Latches) (reply : Option Reply) (x : Option Fetched) where
+module _ (size instructions_size : ℕ) (g : Registers) (k : Latches) (reply : Option Reply) (x : Option Fetched) where
   abbrev next : Latches
-  next = latches_after size text g k reply x
+  next = latches_after size instructions_size g k reply x
 
   -- what stood in the latches behind W and what is fetched is what stands in them then, and what is dropped
   pub clock_balance : in_flight_count next + dropped_count k (completes size k reply).flow (executes size k reply).flow
-      ≡ occupancy k.d + occupancy k.x + occupancy k.m + one_if (has_fetched (plans size text g k reply) x)
+      ≡ occupancy k.d + occupancy k.x + occupancy k.m + one_if (has_fetched (plans size instructions_size g k reply) x)
   clock_balance =
       let a = data_balance k.m (data_request size k.m) reply in
       let b = execute_balance (completes size k reply).flow k.m k.x in
       let c = decode_balance (reads size g k reply) (executes size k reply).flow k.x k.d in
-      let d = fetch_balance text k.f k.d (decodes size g k reply).flow x (executes size k reply).redirect in
+      let d = fetch_balance instructions_size k.f k.d (decodes size g k reply).flow x (executes size k reply).redirect in
       omega arith
 
 rolled_most : (flow : Flow) (n : ℕ) → if_rolled flow n ≤ n

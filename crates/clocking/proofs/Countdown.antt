@@ -33,18 +33,18 @@ use Rattle.clocking.proofs.Served.{Bytes}
 -- of the two memories what no clock changes: their sizes, and the longest waits that they state
 pub record Memories : Type 0 where
   pub data_size : ℕ
-  pub text_size : ℕ
+  pub instructions_size : ℕ
   pub data_longest : ℕ
-  pub text_longest : ℕ
+  pub instructions_longest : ℕ
 
 -- the waits that each request has left, to the data and to the instruction memory
 pub record Waits : Type 0 where
   pub of_data : Request → ℕ
-  pub of_text : Request → ℕ
+  pub of_instructions : Request → ℕ
 
 -- those left for fetching at f, none where it cannot be read
 abbrev pub fetch_waits : Memories → Waits → ℕ → ℕ
-fetch_waits fixed left f = waits_for left.of_text (bus_request (fetch_request fixed.text_size f Moves))
+fetch_waits fixed left f = waits_for left.of_instructions (bus_request (fetch_request fixed.instructions_size f Moves))
 
 module _ (fixed : Memories) (left : Waits) where
   abbrev count_by : Latch Completed → Latch Executed → Latch Decoded → Latch Fetched → ℕ → ℕ
@@ -59,7 +59,7 @@ module _ (fixed : Memories) (left : Waits) where
   count k = count_by k.w k.m k.x k.d k.f
 
   abbrev LulledBy : Latch Completed → Latch Executed → Latch Decoded → Latch Fetched → ℕ → Type 0
-  LulledBy (Full c) Empty Empty Empty f = fetch_waits fixed left f < fixed.text_longest
+  LulledBy (Full c) Empty Empty Empty f = fetch_waits fixed left f < fixed.instructions_longest
   LulledBy w m x d f = Unit {0}
 
   -- an empty pipeline behind W waits for its next instruction already
@@ -72,13 +72,13 @@ pub record Clock {P : Type 0} (table : TableOf P) (fixed : Memories) : Type 0 wh
   pub predictor : P
   pub reply : Option Reply
   pub answer : Option Reply
-  pub text_before : ℕ → ℕ
-  pub text_after : ℕ → ℕ
+  pub instructions_before : ℕ → ℕ
+  pub instructions_after : ℕ → ℕ
   pub before : Waits
   pub after : Waits
   pub data_patient : (q : Request) → before.of_data q ≤ fixed.data_longest
   pub data_still_patient : (q : Request) → after.of_data q ≤ fixed.data_longest
-  pub text_patient : (q : Request) → before.of_text q ≤ fixed.text_longest
+  pub instructions_patient : (q : Request) → before.of_instructions q ≤ fixed.instructions_longest
 
 -- ---- where X and M are empty there is no hazard
 
@@ -123,14 +123,14 @@ module _ {P : Type 0} (table : TableOf P) (fixed : Memories) (clock : Clock tabl
   abbrev size : ℕ
   size = fixed.data_size
 
-  abbrev text : ℕ
-  text = fixed.text_size
+  abbrev instructions_size : ℕ
+  instructions_size = fixed.instructions_size
 
   abbrev most : ℕ
   most = fixed.data_longest
 
   abbrev least : ℕ
-  least = fixed.text_longest
+  least = fixed.instructions_longest
 
   abbrev waits : Option Request → ℕ
   waits = waits_for clock.before.of_data
@@ -143,7 +143,7 @@ module _ {P : Type 0} (table : TableOf P) (fixed : Memories) (clock : Clock tabl
 
   -- what the instruction memory did
   abbrev Serves : Option Request → Option Reply → Type 0
-  Serves q a = Bytes text q a clock.text_before clock.text_after × Worn a q clock.before.of_text clock.after.of_text
+  Serves q a = Bytes instructions_size q a clock.instructions_before clock.instructions_after × Worn a q clock.before.of_instructions clock.after.of_instructions
 
   abbrev after : Latch Completed → Latch Executed → Latch Decoded → Latch Fetched → ℕ → ℕ
   after = count_by fixed clock.after
@@ -151,7 +151,7 @@ module _ {P : Type 0} (table : TableOf P) (fixed : Memories) (clock : Clock tabl
   abbrev LulledAfter : Latch Completed → Latch Executed → Latch Decoded → Latch Fetched → ℕ → Type 0
   LulledAfter = LulledBy fixed clock.after
 
-  asks_read : (left : Waits) (f : ℕ) → eqb (f % 4) 0 ≡ true → ltb f text ≡ true → fetch_waits fixed left f ≡ left.of_text (Read f)
+  asks_read : (left : Waits) (f : ℕ) → eqb (f % 4) 0 ≡ true → ltb f instructions_size ≡ true → fetch_waits fixed left f ≡ left.of_instructions (Read f)
   asks_read left f e i = rw (e, i)
 
   waits_most : (q : Option Request) → waits_for clock.after.of_data q ≤ most
@@ -187,28 +187,28 @@ module _ {P : Type 0} (table : TableOf P) (fixed : Memories) (clock : Clock tabl
   filled_d Empty f h = absurd h
   filled_d d f h = refl
 
-  waits_few : (q : Option Request) → waits_for clock.before.of_text q ≤ least
+  waits_few : (q : Option Request) → waits_for clock.before.of_instructions q ≤ least
   waits_few None = omega arith
-  waits_few (Some q) = clock.text_patient q
+  waits_few (Some q) = clock.instructions_patient q
 
   module _ (f : ℕ) where
     -- a fetch puts an instruction into D, or has to wait, which lowers what is left
     abbrev Arrived : FetchOut → Type 0
     Arrived o = Filled o.d ⊎ ((o.d ≡ Empty) × (o.f ≡ f) × (fetching_waits_then f < fetching_waits f))
 
-    asked : (a : Option Reply) → eqb (f % 4) 0 ≡ true → ltb f text ≡ true → Serves (Some (Read f)) a → Arrived (fetches_on f (Ok (Some (Read f))) (arrival table clock.predictor f a))
+    asked : (a : Option Reply) → eqb (f % 4) 0 ≡ true → ltb f instructions_size ≡ true → Serves (Some (Read f)) a → Arrived (fetches_on f (Ok (Some (Read f))) (arrival table clock.predictor f a))
     asked (Some (Ok (Word x))) e i h = inl tt
     asked (Some (Err Wait)) e i h = inr (refl, refl, rw (asks_read clock.before f e i, asks_read clock.after f e i) h.1)
     asked (Some (Err Outside)) e i h = absurd (both_ways _ h.0.0 (and_from _ _ e i))
     asked a e i h = absurd h.0
 
-    arrived_by : (a : Option Reply) (b d : Bool) → eqb (f % 4) 0 ≡ b → ltb f text ≡ d → Serves (bus_request (asked_if f b d)) a
+    arrived_by : (a : Option Reply) (b d : Bool) → eqb (f % 4) 0 ≡ b → ltb f instructions_size ≡ d → Serves (bus_request (asked_if f b d)) a
         → Arrived (fetches_on f (asked_if f b d) (arrival table clock.predictor f a))
     arrived_by a true true e i h = asked a e i h
     arrived_by a b d e i h = inl tt
 
-    arrived : (a : Option Reply) → Serves (bus_request (fetch_request text f Moves)) a → Arrived (fetches_on f (fetch_request text f Moves) (arrival table clock.predictor f a))
-    arrived a h = arrived_by a (eqb (f % 4) 0) (ltb f text) refl refl h
+    arrived : (a : Option Reply) → Serves (bus_request (fetch_request instructions_size f Moves)) a → Arrived (fetches_on f (fetch_request instructions_size f Moves) (arrival table clock.predictor f a))
+    arrived a h = arrived_by a (eqb (f % 4) 0) (ltb f instructions_size) refl refl h
 
     falls_by : (o : FetchOut) → Arrived o → after Empty Empty Empty o.d o.f < 5 + most + fetching_waits f
     falls_by o (inl h) = rw (filled_d o.d o.f h) (omega arith)
@@ -225,12 +225,12 @@ module _ {P : Type 0} (table : TableOf P) (fixed : Memories) (clock : Clock tabl
         lulled_full : (d : Latch Fetched) (f : ℕ) (c : Completed) → Filled d → LulledAfter (Full c) Empty Empty d f
         lulled_full Empty f c h = absurd h
         lulled_full d f c h = tt
-    lulled_by o c (inr h) = rw (h.0, h.1) (let k = h.2 in let m = waits_few (bus_request (fetch_request text f Moves)) in omega arith)
+    lulled_by o c (inr h) = rw (h.0, h.1) (let k = h.2 in let m = waits_few (bus_request (fetch_request instructions_size f Moves)) in omega arith)
 
   -- ---- one clock
 
   abbrev next : Latches → Latches
-  next k = latches_after size text clock.registers k clock.reply (arrival table clock.predictor k.f clock.answer)
+  next k = latches_after size instructions_size clock.registers k clock.reply (arrival table clock.predictor k.f clock.answer)
 
   -- the countdown after the clock
   abbrev ends_at : Latches → ℕ
@@ -239,14 +239,14 @@ module _ {P : Type 0} (table : TableOf P) (fixed : Memories) (clock : Clock tabl
   abbrev pub DataAsked : Latches → Type 0
   DataAsked k = Worn clock.reply (bus_request (data_request size k.m)) clock.before.of_data clock.after.of_data
 
-  abbrev pub TextAsked : Latches → Type 0
-  TextAsked k = Serves (bus_request (plans size text clock.registers k clock.reply)) clock.answer
+  abbrev pub InstructionsAsked : Latches → Type 0
+  InstructionsAsked k = Serves (bus_request (plans size instructions_size clock.registers k clock.reply)) clock.answer
 
   abbrev latches : ℕ → Latch Fetched → Latch Decoded → Latch Executed → Latch Completed → Latches
   latches f d x m w = record { f = f; d = d; x = x; m = m; w = w }
 
   -- a clock in which nothing retires
-  falls : (f : ℕ) (d : Latch Fetched) (x : Latch Decoded) (m : Latch Executed) → DataAsked (latches f d x m Empty) → TextAsked (latches f d x m Empty)
+  falls : (f : ℕ) (d : Latch Fetched) (x : Latch Decoded) (m : Latch Executed) → DataAsked (latches f d x m Empty) → InstructionsAsked (latches f d x m Empty)
       → ends_at (latches f d x m Empty) < count fixed clock.before (latches f d x m Empty)
   falls f d x (Full e) h w = by_m e x _ _ _ (request size e.access e.result e.b) clock.reply h
   falls f d (Full y) Empty h w = by_x y.address y.guess (execute y) _ _ _
@@ -260,7 +260,7 @@ module _ {P : Type 0} (table : TableOf P) (fixed : Memories) (clock : Clock tabl
 
   -- a clock in which one retires
   bounds : (f : ℕ) (d : Latch Fetched) (x : Latch Decoded) (m : Latch Executed) (c : Completed) → DataAsked (latches f d x m (Full c))
-      → TextAsked (latches f d x m (Full c)) → Lulled fixed clock.before (latches f d x m (Full c)) → ends_at (latches f d x m (Full c)) ≤ 3 + most + least
+      → InstructionsAsked (latches f d x m (Full c)) → Lulled fixed clock.before (latches f d x m (Full c)) → ends_at (latches f d x m (Full c)) ≤ 3 + most + least
   bounds f d x (Full e) c h w l =
       let k : ends_at (latches f d x (Full e) (Full c)) < 2 + waits (bus_request (request size e.access e.result e.b)) =
       by_m e x _ _ _ (request size e.access e.result e.b) clock.reply h in
@@ -276,13 +276,13 @@ module _ {P : Type 0} (table : TableOf P) (fixed : Memories) (clock : Clock tabl
   bounds f d x m c h w l = omega arith
 
   down_by : (f : ℕ) (d : Latch Fetched) (x : Latch Decoded) (m : Latch Executed) (w : Latch Completed) → Flows w → DataAsked (latches f d x m w)
-      → TextAsked (latches f d x m w) → Lulled fixed clock.before (latches f d x m w)
+      → InstructionsAsked (latches f d x m w) → Lulled fixed clock.before (latches f d x m w)
       → Down (least + most + 3) w (count fixed clock.before (latches f d x m w)) (ends_at (latches f d x m w))
   down_by f d x m Empty k h w l = falls f d x m h w
   down_by f d x m (Faulting stop) k h w l = absurd k
   down_by f d x m (Full c) k h w l = let z = bounds f d x m c h w l in omega arith
 
-  pub down : (k : Latches) → Flows k.w → DataAsked k → TextAsked k → Lulled fixed clock.before k
+  pub down : (k : Latches) → Flows k.w → DataAsked k → InstructionsAsked k → Lulled fixed clock.before k
       → Down (least + most + 3) k.w (count fixed clock.before k) (ends_at k)
   down k = down_by k.f k.d k.x k.m k.w
 
@@ -295,13 +295,13 @@ module _ {P : Type 0} (table : TableOf P) (fixed : Memories) (clock : Clock tabl
   decodes_by k o = decode_stage (values_in_flight (x_result o.flow (executes_by k o).m) k.m o.w k.w clock.registers) k.x k.d (executes_by k o).flow
 
   abbrev fetches_by : Latches → DataOut → FetchOut
-  fetches_by k o = fetch_stage k.f k.d (decodes_by k o).flow (fetch_request text k.f (decodes_by k o).flow) (arrival table clock.predictor k.f clock.answer) (executes_by k o).redirect
+  fetches_by k o = fetch_stage k.f k.d (decodes_by k o).flow (fetch_request instructions_size k.f (decodes_by k o).flow) (arrival table clock.predictor k.f clock.answer) (executes_by k o).redirect
 
   abbrev Lulls : Latches → DataOut → Type 0
   Lulls k o = LulledAfter o.w (executes_by k o).m (decodes_by k o).x (fetches_by k o).d (fetches_by k o).f
 
-  abbrev TextBy : Latches → DataOut → Type 0
-  TextBy k o = Serves (bus_request (fetch_request text k.f (decodes_by k o).flow)) clock.answer
+  abbrev InstructionsBy : Latches → DataOut → Type 0
+  InstructionsBy k o = Serves (bus_request (fetch_request instructions_size k.f (decodes_by k o).flow)) clock.answer
 
   lull_m : (c : Completed) (m : Latch Executed) (x : Latch Decoded) (d : Latch Fetched) (f : ℕ) → Filled m → LulledAfter (Full c) m x d f
   lull_m c Empty x d f h = absurd h
@@ -318,8 +318,8 @@ module _ {P : Type 0} (table : TableOf P) (fixed : Memories) (clock : Clock tabl
   -- a hazard keeps D full
   abbrev KeptFull : Completed → ℕ → Fetched → DecodeOut → Type 0
   KeptFull c f y o = LulledAfter (Full c) Empty o.x
-      (fetch_stage f (Full y) o.flow (fetch_request text f o.flow) (arrival table clock.predictor f clock.answer) None).d
-      (fetch_stage f (Full y) o.flow (fetch_request text f o.flow) (arrival table clock.predictor f clock.answer) None).f
+      (fetch_stage f (Full y) o.flow (fetch_request instructions_size f o.flow) (arrival table clock.predictor f clock.answer) None).d
+      (fetch_stage f (Full y) o.flow (fetch_request instructions_size f o.flow) (arrival table clock.predictor f clock.answer) None).f
 
   kept_with : (c : Completed) (f : ℕ) (y : Fetched) (i : Instruction) (a b : Option ℕ) → KeptFull c f y (with_operands y i a b)
   kept_with c f y i (Some a) (Some b) = tt
@@ -331,24 +331,24 @@ module _ {P : Type 0} (table : TableOf P) (fixed : Memories) (clock : Clock tabl
 
   -- M goes to W
   lull_by : (f : ℕ) (d : Latch Fetched) (x : Latch Decoded) (e : Executed) (w : Latch Completed) (c : Completed)
-      → TextBy (latches f d x (Full e) w) (record { w = Full c; flow = Moves }) → Lulls (latches f d x (Full e) w) (record { w = Full c; flow = Moves })
+      → InstructionsBy (latches f d x (Full e) w) (record { w = Full c; flow = Moves }) → Lulls (latches f d x (Full e) w) (record { w = Full c; flow = Moves })
   lull_by f d (Full y) e w c h = lull_m c (check_guess y.address y.guess (execute y)).m _ _ _ (fills_m y.address y.guess (execute y))
   lull_by f (Full y) Empty e w c h = kept_word _ c f y y.issued
   lull_by f Empty Empty e w c h = lulled_by f _ c (arrived f clock.answer h)
   lull_by f d x e w c h = tt
 
   lull_memory : (f : ℕ) (d : Latch Fetched) (x : Latch Decoded) (e : Executed) (w : Latch Completed) (o : Result (Option Request) Cause) (r : Option Reply)
-      → TextBy (latches f d x (Full e) w) (use_memory e o r) → Lulls (latches f d x (Full e) w) (use_memory e o r)
+      → InstructionsBy (latches f d x (Full e) w) (use_memory e o r) → Lulls (latches f d x (Full e) w) (use_memory e o r)
   lull_memory f d x e w (Err c) r h = tt
   lull_memory f d x e w (Ok n) (Some (Err Wait)) h = tt
   lull_memory f d x e w (Ok n) (Some (Ok (Word v))) h = lull_by f d x e w (complete e (loaded e.access e.result v)) h
   lull_memory f d x e w (Ok n) r h = lull_by f d x e w (complete e e.result) h
 
-  lulls_by : (f : ℕ) (d : Latch Fetched) (x : Latch Decoded) (m : Latch Executed) (w : Latch Completed) → TextAsked (latches f d x m w) → Lulled fixed clock.after (next (latches f d x m w))
+  lulls_by : (f : ℕ) (d : Latch Fetched) (x : Latch Decoded) (m : Latch Executed) (w : Latch Completed) → InstructionsAsked (latches f d x m w) → Lulled fixed clock.after (next (latches f d x m w))
   lulls_by f d x (Full e) w h = lull_memory f d x e w (request size e.access e.result e.b) clock.reply h
   lulls_by f d x m w h = tt
 
-  pub lulls : (k : Latches) → TextAsked k → Lulled fixed clock.after (next k)
+  pub lulls : (k : Latches) → InstructionsAsked k → Lulled fixed clock.after (next k)
   lulls k = lulls_by k.f k.d k.x k.m k.w
 
 -- ---- what it can be at most, and that it is never 0
@@ -362,10 +362,10 @@ least_one fixed left k = least_one_by k.w k.m k.x k.d k.f
     least_one_by w m x d f = omega arith
 
 -- of a machine that has just been loaded
-pub at_first : (fixed : Memories) (left : Waits) → ((q : Request) → left.of_text q ≤ fixed.text_longest) → (f : ℕ)
-    → count fixed left (record { f = f; d = Empty; x = Empty; m = Empty; w = Empty }) ≤ 5 + fixed.data_longest + fixed.text_longest
-at_first fixed left patient f = let k = waits_few (bus_request (fetch_request fixed.text_size f Moves)) in omega arith
+pub at_first : (fixed : Memories) (left : Waits) → ((q : Request) → left.of_instructions q ≤ fixed.instructions_longest) → (f : ℕ)
+    → count fixed left (record { f = f; d = Empty; x = Empty; m = Empty; w = Empty }) ≤ 5 + fixed.data_longest + fixed.instructions_longest
+at_first fixed left patient f = let k = waits_few (bus_request (fetch_request fixed.instructions_size f Moves)) in omega arith
   where
-    waits_few : (q : Option Request) → waits_for left.of_text q ≤ fixed.text_longest
+    waits_few : (q : Option Request) → waits_for left.of_instructions q ≤ fixed.instructions_longest
     waits_few None = omega arith
     waits_few (Some q) = patient q

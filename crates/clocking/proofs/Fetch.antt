@@ -110,6 +110,6 @@ asked_kept : (size f : ℕ) (b d : Bool) (a : Option Reply) (u v : ℕ → ℕ) 
 asked_kept size f true true a u v h = read_same size f a u v h
 asked_kept size f b d a u v h = idle_same size a u v h
 
-pub text_kept : (size f : ℕ) (flow : Flow) (a : Option Reply) (u v : ℕ → ℕ) → Bytes size (bus_request (fetch_request size f flow)) a u v → v ≡ u
-text_kept size f Moves a u v h = asked_kept size f (eqb (f % 4) 0) (ltb f size) a u v h
-text_kept size f flow a u v h = idle_same size a u v h
+pub instructions_kept : (size f : ℕ) (flow : Flow) (a : Option Reply) (u v : ℕ → ℕ) → Bytes size (bus_request (fetch_request size f flow)) a u v → v ≡ u
+instructions_kept size f Moves a u v h = asked_kept size f (eqb (f % 4) 0) (ltb f size) a u v h
+instructions_kept size f flow a u v h = idle_same size a u v h

@@ -27,9 +27,9 @@ sourced_read Moves f r k = known_read f r k
 sourced_read flow f r k = tt
 
 module _ (world : World) where
-  module _ (t : State) (bytes n text : ℕ → ℕ) (g : Registers) (k : Latches) (reply answer : Option Reply) (arrival : Option Fetched) (c : Rest world t bytes g k)
+  module _ (t : State) (bytes n instructions_bytes : ℕ → ℕ) (g : Registers) (k : Latches) (reply answer : Option Reply) (arrival : Option Fetched) (c : Rest world t bytes g k)
       (served : Bytes world.data_size (bus_request (data_request world.data_size k.m)) reply bytes n)
-      (right : Bytes world.instructions_size (bus_request (plans world.data_size world.instructions_size g k reply)) answer world.instructions text)
+      (right : Bytes world.instructions_size (bus_request (plans world.data_size world.instructions_size g k reply)) answer world.instructions instructions_bytes)
       (arrives : Arrives k.f answer arrival) where
     abbrev size : ℕ
     size = world.data_size
@@ -72,7 +72,7 @@ module _ (world : World) where
 
     from_fetch : FetchKept world (behindX world (behindM world one (executes size k reply).m) (decodes size g k reply).x) (fetches size world.instructions_size g k reply arrival)
     from_fetch =
-        fetch_kept world (decodes size g k reply).flow k.f k.d answer arrival (executes size k reply).redirect text (behindX world two k.x) _ right arrives d_held f_leads from_decode.rests
+        fetch_kept world (decodes size g k reply).flow k.f k.d answer arrival (executes size k reply).redirect instructions_bytes (behindX world two k.x) _ right arrives d_held f_leads from_decode.rests
 
     kept_on : Chain world t n g (latches_after size world.instructions_size g k reply arrival)
     kept_on = record {
@@ -86,11 +86,11 @@ module _ (world : World) where
       f = from_fetch.f;
     }
 
-  pub clock_keeps : (s : State) (bytes n text : ℕ → ℕ) (g : Registers) (k : Latches) (reply answer : Option Reply) (arrival : Option Fetched) → Chain world s bytes g k → Flows k.w
+  pub clock_keeps : (s : State) (bytes n instructions_bytes : ℕ → ℕ) (g : Registers) (k : Latches) (reply answer : Option Reply) (arrival : Option Fetched) → Chain world s bytes g k → Flows k.w
       → Bytes world.data_size (bus_request (data_request world.data_size k.m)) reply bytes n
-      → Bytes world.instructions_size (bus_request (plans world.data_size world.instructions_size (write_back g k.w) k reply)) answer world.instructions text
+      → Bytes world.instructions_size (bus_request (plans world.data_size world.instructions_size (write_back g k.w) k reply)) answer world.instructions instructions_bytes
       → Arrives k.f answer arrival
       → (t : State) × Retires world s k.w t × Chain world t n (write_back g k.w) (latches_after world.data_size world.instructions_size (write_back g k.w) k reply arrival)
-  clock_keeps s bytes n text g k reply answer arrival c w served right a =
+  clock_keeps s bytes n instructions_bytes g k reply answer arrival c w served right a =
       let z = retire world s bytes g k.f k.d k.x k.m k.w c w in
-      (z.0, z.1, kept_on z.0 bytes n text (write_back g k.w) k reply answer arrival z.2 served right a)
+      (z.0, z.1, kept_on z.0 bytes n instructions_bytes (write_back g k.w) k reply answer arrival z.2 served right a)

@@ -193,18 +193,18 @@ sent_by f true true = refl
 sent_by f true false = refl
 sent_by f false d = refl
 
-sent_so : (text f : ℕ) (flow : Flow) → bus_request (fetch_request text f flow) ≡ cond (moves flow && within text f) (Some (Read f)) None
-sent_so text f RollsBack = refl
-sent_so text f Stalls = refl
-sent_so text f Moves = sent_by f (eqb (f % 4) 0) (ltb f text)
+sent_so : (instructions_size f : ℕ) (flow : Flow) → bus_request (fetch_request instructions_size f flow) ≡ cond (moves flow && within instructions_size f) (Some (Read f)) None
+sent_so instructions_size f RollsBack = refl
+sent_so instructions_size f Stalls = refl
+sent_so instructions_size f Moves = sent_by f (eqb (f % 4) 0) (ltb f instructions_size)
 
-misaligned_by : (text f : ℕ) (d : Latch Fetched) (x : Option Fetched) (u : Option ℕ) → eqb (f % 4) 0 ≡ false
-    → fetch_stage f d Moves (fetch_request text f Moves) x u ≡ record { f = following f; d = Faulting (record { address = f; cause = InstructionMisaligned }) }
-misaligned_by text f d x u e = rw e
+misaligned_by : (instructions_size f : ℕ) (d : Latch Fetched) (x : Option Fetched) (u : Option ℕ) → eqb (f % 4) 0 ≡ false
+    → fetch_stage f d Moves (fetch_request instructions_size f Moves) x u ≡ record { f = following f; d = Faulting (record { address = f; cause = InstructionMisaligned }) }
+misaligned_by instructions_size f d x u e = rw e
 
-outside_by : (text f : ℕ) (d : Latch Fetched) (x : Option Fetched) (u : Option ℕ) → eqb (f % 4) 0 ≡ true → ltb f text ≡ false
-    → fetch_stage f d Moves (fetch_request text f Moves) x u ≡ record { f = following f; d = Faulting (record { address = f; cause = InstructionAccessFault }) }
-outside_by text f d x u e i = rw (e, i)
+outside_by : (instructions_size f : ℕ) (d : Latch Fetched) (x : Option Fetched) (u : Option ℕ) → eqb (f % 4) 0 ≡ true → ltb f instructions_size ≡ false
+    → fetch_stage f d Moves (fetch_request instructions_size f Moves) x u ≡ record { f = following f; d = Faulting (record { address = f; cause = InstructionAccessFault }) }
+outside_by instructions_size f d x u e i = rw (e, i)
 
 -- where something was asked, what arrived is put into D
 abbrev IsAsked : Result (Option Request) Cause → Type 0
@@ -221,11 +221,11 @@ on_placed f (Err c) x h = absurd h
 on_placed f (Ok None) x h = absurd h
 on_placed f (Ok (Some q)) x h = refl
 
-placed_so : (text f : ℕ) (d : Latch Fetched) (flow : Flow) (x : Option Fetched) (u : Option ℕ) → IsAsked (fetch_request text f flow)
-    → fetch_stage f d flow (fetch_request text f flow) x u ≡ fill_d f x
-placed_so text f d RollsBack x u h = absurd h
-placed_so text f d Stalls x u h = absurd h
-placed_so text f d Moves x u h = on_placed f (fetch_request text f Moves) x h
+placed_so : (instructions_size f : ℕ) (d : Latch Fetched) (flow : Flow) (x : Option Fetched) (u : Option ℕ) → IsAsked (fetch_request instructions_size f flow)
+    → fetch_stage f d flow (fetch_request instructions_size f flow) x u ≡ fill_d f x
+placed_so instructions_size f d RollsBack x u h = absurd h
+placed_so instructions_size f d Stalls x u h = absurd h
+placed_so instructions_size f d Moves x u h = on_placed f (fetch_request instructions_size f Moves) x h
 
 guesses : {P : Type 0} (table : TableOf P) (p : P) (f : ℕ) (o : Option Instruction) → guess_after table p f (issues o) ≡ guess_of table p f o
 unfolding target_of
@@ -282,7 +282,7 @@ data_moves true w g e = absurd (false≢true e)
 data_moves false true g e = absurd (false≢true e)
 data_moves false false g e = (refl, e)
 
-module _ (size text : ℕ) (k : Latches) (g : Registers) (reply : Option Reply) (h : Heard (bus_request (data_request size k.m)) reply) where
+module _ (size instructions_size : ℕ) (k : Latches) (g : Registers) (reply : Option Reply) (h : Heard (bus_request (data_request size k.m)) reply) where
   abbrev c : Bool
   c = m_faults size k.m
 
@@ -338,10 +338,10 @@ module _ (size text : ℕ) (k : Latches) (g : Registers) (reply : Option Reply) 
     moves = λ e i. decode_at Moves (two_flow ∙ two_moves c w held wrong e) ∙ moved_on short (in_x size k reply (value_of g) k.d) _ (moves_so e) i;
   }
 
-  sent_text : bus_request (plans size text g k reply) ≡ f_asks size k reply text
+  sent_text : bus_request (plans size instructions_size g k reply) ≡ f_asks size k reply instructions_size
   sent_text =
-      sent_so text k.f (decodes size g k reply).flow
-      ∙ ap (λ b. cond (b && within text k.f) (Some (Read k.f)) None) (ap moves three_flow ∙ three_moves c w held wrong (is_occupied k.d) short)
+      sent_so instructions_size k.f (decodes size g k reply).flow
+      ∙ ap (λ b. cond (b && within instructions_size k.f) (Some (Read k.f)) None) (ap moves three_flow ∙ three_moves c w held wrong (is_occupied k.d) short)
 
   notes_by : (answer : Option Reply) → move_notes size g k reply answer ≡ record {
     fetch_wait = is_wait answer;
@@ -362,15 +362,15 @@ module _ (size text : ℕ) (k : Latches) (g : Registers) (reply : Option Reply) 
 
   module _ (x : Option Fetched) where
     abbrev next : Latches
-    next = latches_after size text g k reply x
+    next = latches_after size instructions_size g k reply x
 
     abbrev fetched_by : Flow → FetchOut
-    fetched_by flow = fetch_stage k.f k.d flow (fetch_request text k.f flow) x (executes size k reply).redirect
+    fetched_by flow = fetch_stage k.f k.d flow (fetch_request instructions_size k.f flow) x (executes size k reply).redirect
 
-    fetch_at : (flow : Flow) → (decodes size g k reply).flow ≡ flow → fetches size text g k reply x ≡ fetched_by flow
+    fetch_at : (flow : Flow) → (decodes size g k reply).flow ≡ flow → fetches size instructions_size g k reply x ≡ fetched_by flow
     fetch_at flow e = ap fetched_by e
 
-    parts : (o : FetchOut) → fetches size text g k reply x ≡ o → (next.d ≡ o.d) × (next.f ≡ o.f)
+    parts : (o : FetchOut) → fetches size instructions_size g k reply x ≡ o → (next.d ≡ o.d) × (next.f ≡ o.f)
     parts o e = (ap (λ o. o.d) e, ap (λ o. o.f) e)
 
     rolled_by_data : rolls_by_data size k reply ≡ true → (next.d ≡ Empty) × (next.f ≡ k.f)
@@ -390,12 +390,12 @@ module _ (size text : ℕ) (k : Latches) (g : Registers) (reply : Option Reply) 
     stayed : d_stalls size k reply ≡ true → (next.d ≡ k.d) × (next.f ≡ k.f)
     stayed e = parts (fetched_by Stalls) (fetch_at Stalls (three_flow ∙ three_stalls c w held wrong (is_occupied k.d) short exclusive e))
 
-    free_at : d_is_free size k reply ≡ true → fetches size text g k reply x ≡ fetched_by Moves
+    free_at : d_is_free size k reply ≡ true → fetches size instructions_size g k reply x ≡ fetched_by Moves
     free_at e = fetch_at Moves (three_flow ∙ three_free c w held wrong (is_occupied k.d) short e)
 
-    placed_at : (answer : Reply) → Heard (bus_request (plans size text g k reply)) (Some answer) → (next.d ≡ (fill_d k.f x).d) × (next.f ≡ (fill_d k.f x).f)
+    placed_at : (answer : Reply) → Heard (bus_request (plans size instructions_size g k reply)) (Some answer) → (next.d ≡ (fill_d k.f x).d) × (next.f ≡ (fill_d k.f x).f)
     placed_at answer i =
-        parts (fill_d k.f x) (placed_so text k.f k.d (decodes size g k reply).flow x (executes size k reply).redirect (is_asked (plans size text g k reply) answer i))
+        parts (fill_d k.f x) (placed_so instructions_size k.f k.d (decodes size g k reply).flow x (executes size k reply).redirect (is_asked (plans size instructions_size g k reply) answer i))
 
     -- what is left of a line of latches
     abbrev kept : List ℕ
@@ -406,15 +406,15 @@ module _ (size text : ℕ) (k : Latches) (g : Registers) (reply : Option Reply) 
         ap (λ l. at_w k.w ++ l)
         (ap (λ l. at_m k.m ++ l) (splits c w held wrong (at_x k.x) (at_d k.d)) ∙ sym (append_assoc (at_m k.m) _ (dropped_addresses size k reply)))
 
-    after_so : From k.f x → flight next ≡ kept ++ new_if k.f (has_fetched (plans size text g k reply) x)
+    after_so : From k.f x → flight next ≡ kept ++ new_if k.f (has_fetched (plans size instructions_size g k reply) x)
     after_so i =
-        ap (λ l. at_w next.w ++ (at_m next.m ++ (at_x next.x ++ l))) (fetch_line text k.f k.d (decodes size g k reply).flow x (executes size k reply).redirect i)
+        ap (λ l. at_w next.w ++ (at_m next.m ++ (at_x next.x ++ l))) (fetch_line instructions_size k.f k.d (decodes size g k reply).flow x (executes size k reply).redirect i)
         ∙ in_line (at_w next.w) (at_m next.m) (at_x next.x) _ _ _ _ _ _ _
         (data_line k.m (data_request size k.m) reply)
         (execute_line (completes size k reply).flow k.m k.x)
         (decode_line (reads size g k reply) (executes size k reply).flow k.x k.d)
-        ∙ ap (λ flow. (at_m k.m ++ (left flow (at_x k.x) ++ left (executes size k reply).flow (at_d k.d))) ++ new_if k.f (has_fetched (plans size text g k reply) x)) one_flow
-        ∙ ap (λ flow. (at_m k.m ++ (left (data_flow c w) (at_x k.x) ++ left flow (at_d k.d))) ++ new_if k.f (has_fetched (plans size text g k reply) x)) two_flow
+        ∙ ap (λ flow. (at_m k.m ++ (left flow (at_x k.x) ++ left (executes size k reply).flow (at_d k.d))) ++ new_if k.f (has_fetched (plans size instructions_size g k reply) x)) one_flow
+        ∙ ap (λ flow. (at_m k.m ++ (left (data_flow c w) (at_x k.x) ++ left flow (at_d k.d))) ++ new_if k.f (has_fetched (plans size instructions_size g k reply) x)) two_flow
 
     dropped_by : dropped_count k (completes size k reply).flow (executes size k reply).flow ≡ length (dropped_addresses size k reply)
     dropped_by =
@@ -422,49 +422,49 @@ module _ (size text : ℕ) (k : Latches) (g : Registers) (reply : Option Reply) 
         ∙ gone_length c w held wrong (at_x k.x) (at_d k.d) _ _ (x_length k.x) (d_length k.d)
 
     flight_so : From k.f x → (a b : Counts) (retires : Bool) → one_if retires ≡ length (at_w k.w)
-        → Counted a (has_fetched (plans size text g k reply) x) retires (dropped_count k (completes size k reply).flow (executes size k reply).flow) b
+        → Counted a (has_fetched (plans size instructions_size g k reply) x) retires (dropped_count k (completes size k reply).flow (executes size k reply).flow) b
         → FlightLaw size k reply a next b
     flight_so i a b retires e q = record {
       to_w = goes_to_w size k.m reply h;
       to_m = ap (λ flow. at_m (execute_stage k.m k.x flow).m) one_flow ∙ goes_to_m c w k.m k.x exclusive;
       kept = kept;
-      fetched = new_if k.f (has_fetched (plans size text g k reply) x);
+      fetched = new_if k.f (has_fetched (plans size instructions_size g k reply) x);
       before = before_so;
       after = after_so i;
-      fetches_at = new_either k.f (has_fetched (plans size text g k reply) x);
+      fetches_at = new_either k.f (has_fetched (plans size instructions_size g k reply) x);
       retired_count = q.retired_count ∙ ap (λ z. a.retired + z) e;
       dropped_count = q.dropped_count ∙ ap (λ z. (a.dropped + z) % 2 ^ 32) dropped_by;
-      fetched_count = q.fetched_count ∙ ap (λ z. a.fetched + z) (new_length k.f (has_fetched (plans size text g k reply) x));
+      fetched_count = q.fetched_count ∙ ap (λ z. a.fetched + z) (new_length k.f (has_fetched (plans size instructions_size g k reply) x));
     }
 
-  module _ {P : Type 0} (table : TableOf P) (p : P) (answer : Option Reply) (i : Heard (bus_request (plans size text g k reply)) answer) where
+  module _ {P : Type 0} (table : TableOf P) (p : P) (answer : Option Reply) (i : Heard (bus_request (plans size instructions_size g k reply)) answer) where
     abbrev got : Option Fetched
     got = arrival table p k.f answer
 
-    waited_by : (r : Option Reply) → Heard (bus_request (plans size text g k reply)) r → is_wait r ≡ true
+    waited_by : (r : Option Reply) → Heard (bus_request (plans size instructions_size g k reply)) r → is_wait r ≡ true
         → ((next (arrival table p k.f r)).d ≡ Empty) × ((next (arrival table p k.f r)).f ≡ k.f)
     waited_by None l e = absurd (false≢true e)
     waited_by (Some (Ok a)) l e = absurd (false≢true e)
     waited_by (Some (Err Wait)) l e = placed_at None (Err Wait) l
     waited_by (Some (Err Outside)) l e = absurd (false≢true e)
 
-    arrived_by : (v : ℕ) (r : Option Reply) → Heard (bus_request (plans size text g k reply)) r → r ≡ Some (Ok (Word v))
+    arrived_by : (v : ℕ) (r : Option Reply) → Heard (bus_request (plans size instructions_size g k reply)) r → r ≡ Some (Ok (Word v))
         → ((next (arrival table p k.f r)).d ≡ Full (record { address = k.f; word = v; issued = issued v; guess = (next (arrival table p k.f r)).f }))
         × ((next (arrival table p k.f r)).f ≡ guess_of table p k.f (decoded v))
     arrived_by v r l e =
         rw e
-        (let q = placed_at (arrival table p k.f (Some (Ok (Word v)))) (Ok (Word v)) (subst (Heard (bus_request (plans size text g k reply))) e l) in (
+        (let q = placed_at (arrival table p k.f (Some (Ok (Word v)))) (Ok (Word v)) (subst (Heard (bus_request (plans size instructions_size g k reply))) e l) in (
           q.0 ∙ ap (λ a. Full (record { address = k.f; word = v; issued = issued v; guess = a })) (sym q.1),
           q.1 ∙ guess_so table p k.f v,
         ))
 
-    fetching_so : FetchLaw size k reply text (λ v. guess_of table p k.f (decoded v)) answer (next got)
+    fetching_so : FetchLaw size k reply instructions_size (λ v. guess_of table p k.f (decoded v)) answer (next got)
     fetching_so = record {
       data_rolls = rolled_by_data got;
       execute_rolls = rolled_by_execute got;
       stalls = stayed got;
-      misaligned = λ e f. parts got _ (free_at got e ∙ misaligned_by text k.f k.d got (executes size k reply).redirect f);
-      outside = λ e f z. parts got _ (free_at got e ∙ outside_by text k.f k.d got (executes size k reply).redirect f z);
+      misaligned = λ e f. parts got _ (free_at got e ∙ misaligned_by instructions_size k.f k.d got (executes size k reply).redirect f);
+      outside = λ e f z. parts got _ (free_at got e ∙ outside_by instructions_size k.f k.d got (executes size k reply).redirect f z);
       waits = waited_by answer i;
       arrives = λ v. arrived_by v answer i;
     }
@@ -475,38 +475,38 @@ module _ (size text : ℕ) (k : Latches) (g : Registers) (reply : Option Reply) 
 abbrev Retires : Latch Completed → Type 0
 Retires w = (is_some (retirement_of w) ≡ is_occupied w) × (one_if (is_some (retirement_of w)) ≡ length (at_w w))
 
-module _ {P I D : Type 0} (table : TableOf P) (instructions : Meaning I) (words : Meaning D) where
-  moved_laws : (m : Core P I D) (e : Event) (n : Core P I D) → Retires m.latches.w → Moved table instructions words m e n → GoingOn table instructions words m e n
+module _ {P I D : Type 0} (table : TableOf P) (instructions : Meaning I) (data_memory : Meaning D) where
+  moved_laws : (m : Core P I D) (e : Event) (n : Core P I D) → Retires m.latches.w → Moved table instructions data_memory m e n → GoingOn table instructions data_memory m e n
   moved_laws m e n r h =
-      let size = words.view.size m.«data» in
-      let text = instructions.view.size m.instructions in
+      let size = data_memory.view.size m.data_memory in
+      let instructions_size = instructions.view.size m.instructions in
       let k = m.latches in
       let g = n.registers in
-      let asked = heard words m.«data» n.«data» (bus_request (data_request size k.m)) h.reply h.data_asked in
-      let planned = heard instructions m.instructions n.instructions (bus_request (plans size text g k h.reply)) h.answer h.text_asked in
+      let asked = heard data_memory m.data_memory n.data_memory (bus_request (data_request size k.m)) h.reply h.data_asked in
+      let planned = heard instructions m.instructions n.instructions (bus_request (plans size instructions_size g k h.reply)) h.answer h.instructions_asked in
       record {
         reply = h.reply;
         answer = h.answer;
         runs_on = h.runs_on;
-        data_asked = subst (λ q. Asked words m.«data» q h.reply n.«data») (asks_same size k.m) h.data_asked;
-        text_asked = subst (λ q. Asked instructions m.instructions q h.answer n.instructions) (sent_text size text k g h.reply asked) h.text_asked;
-        decoding = subst (λ l. DecodeLaw size k h.reply (value_of g) l.x) (sym h.latches) (decoding_so size text k g h.reply asked);
+        data_asked = subst (λ q. Asked data_memory m.data_memory q h.reply n.data_memory) (asks_same size k.m) h.data_asked;
+        instructions_asked = subst (λ q. Asked instructions m.instructions q h.answer n.instructions) (sent_text size instructions_size k g h.reply asked) h.instructions_asked;
+        decoding = subst (λ l. DecodeLaw size k h.reply (value_of g) l.x) (sym h.latches) (decoding_so size instructions_size k g h.reply asked);
         fetching =
-            subst (λ l. FetchLaw size k h.reply text (λ w. guess_of table n.predictor k.f (decoded w)) h.answer l) (sym h.latches)
-            (fetching_so size text k g h.reply asked table n.predictor h.answer planned);
+            subst (λ l. FetchLaw size k h.reply instructions_size (λ w. guess_of table n.predictor k.f (decoded w)) h.answer l) (sym h.latches)
+            (fetching_so size instructions_size k g h.reply asked table n.predictor h.answer planned);
         flights =
             subst (λ l. FlightLaw size k h.reply m.counts l n.counts) (sym h.latches)
-            (flight_so size text k g h.reply asked (arrival table n.predictor k.f h.answer) (from_f table n.predictor k.f h.answer) m.counts n.counts (is_some (retirement_of k.w)) r.1 h.counted);
+            (flight_so size instructions_size k g h.reply asked (arrival table n.predictor k.f h.answer) (from_f table n.predictor k.f h.answer) m.counts n.counts (is_some (retirement_of k.w)) r.1 h.counted);
         retires = ap (λ e. is_some e.retirement) h.event ∙ r.0;
-        notes = ap (λ e. e.clock.notes) h.event ∙ notes_by size text k g h.reply asked h.answer;
+        notes = ap (λ e. e.clock.notes) h.event ∙ notes_by size instructions_size k g h.reply asked h.answer;
       }
 
-  halted_laws : (stop : Stop) (m : Core P I D) (e : Event) (n : Core P I D) → m.latches.w ≡ Faulting stop → Halted table instructions words stop m e n
-      → Ending table instructions words stop m e n
+  halted_laws : (stop : Stop) (m : Core P I D) (e : Event) (n : Core P I D) → m.latches.w ≡ Faulting stop → Halted table instructions data_memory stop m e n
+      → Ending table instructions data_memory stop m e n
   halted_laws stop m e n f h = record {
     stops = h.stops;
     data_idles = h.data_idle;
-    text_idles = h.text_idle;
+    instructions_idles = h.instructions_idle;
     flights =
         ap (λ w. at_w w ++ (at_m m.latches.m ++ (at_x m.latches.x ++ at_d m.latches.d))) f
         ∙ ap (λ l. stop.address ∷ flight l) (sym h.latches);
@@ -519,10 +519,10 @@ module _ {P I D : Type 0} (table : TableOf P) (instructions : Meaning I) (words 
   }
 
   laws_by : (w : Latch Completed) (m : Core P I D) (e : Event) (n : Core P I D) → m.latches.w ≡ w
-      → Worked table instructions words (stop_of w) m e n → LawsBy table instructions words (stop_of w) m e n
+      → Worked table instructions data_memory (stop_of w) m e n → LawsBy table instructions data_memory (stop_of w) m e n
   laws_by Empty m e n f h = moved_laws m e n (subst Retires (sym f) (refl, refl)) h
   laws_by (Faulting stop) m e n f h = halted_laws stop m e n f h
   laws_by (Full c) m e n f h = moved_laws m e n (subst Retires (sym f) (refl, refl)) h
 
-  pub clock_laws : (m : Core P I D) (e : Event) (n : Core P I D) → Cycled table instructions words m e n → ClockLaws table instructions words m e n
+  pub clock_laws : (m : Core P I D) (e : Event) (n : Core P I D) → Cycled table instructions data_memory m e n → ClockLaws table instructions data_memory m e n
   clock_laws m e n h = laws_by m.latches.w m e n refl h

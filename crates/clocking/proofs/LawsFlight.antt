@@ -155,11 +155,11 @@ on_line f (Ok None) x h = refl
 on_line f (Ok (Some q)) None h = refl
 on_line f (Ok (Some q)) (Some x) h = ap (λ a. a ∷ []) h
 
-pub fetch_line : (text f : ℕ) (d : Latch Fetched) (flow : Flow) (x : Option Fetched) (u : Option ℕ) → From f x
-    → at_d (fetch_stage f d flow (fetch_request text f flow) x u).d ≡ staying flow (at_d d) ++ new_if f (has_fetched (fetch_request text f flow) x)
-fetch_line text f d RollsBack x u h = refl
-fetch_line text f d Stalls x u h = sym (append-nil (at_d d))
-fetch_line text f d Moves x u h = on_line f (fetch_request text f Moves) x h
+pub fetch_line : (instructions_size f : ℕ) (d : Latch Fetched) (flow : Flow) (x : Option Fetched) (u : Option ℕ) → From f x
+    → at_d (fetch_stage f d flow (fetch_request instructions_size f flow) x u).d ≡ staying flow (at_d d) ++ new_if f (has_fetched (fetch_request instructions_size f flow) x)
+fetch_line instructions_size f d RollsBack x u h = refl
+fetch_line instructions_size f d Stalls x u h = sym (append-nil (at_d d))
+fetch_line instructions_size f d Moves x u h = on_line f (fetch_request instructions_size f Moves) x h
 
 -- four stages in a row: what each leaves behind it, and what the next makes of it
 pub in_line : (w m x sm sx sd old lx ld new : List ℕ) → w ++ sm ≡ old → m ++ sx ≡ sm ++ lx → x ++ sd ≡ sx ++ ld

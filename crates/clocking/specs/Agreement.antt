@@ -46,13 +46,13 @@ Soon n h =
 
 -- ---- the sequential machine that a pipeline is held to
 
-module _ {P I D : Type 0} (instructions : Meaning I) (words : Meaning D) where
+module _ {P I D : Type 0} (instructions : Meaning I) (data_memory : Meaning D) where
   -- the words that the instruction memory means, and the size of the data memory
   abbrev pub world_of : Core P I D → World
   world_of m = record {
     instructions_size = instructions.view.size m.instructions;
     instructions = instructions.view.byte m.instructions;
-    data_size = words.view.size m.«data»;
+    data_size = data_memory.view.size m.data_memory;
   }
 
   -- the address to fetch, the registers, and the bytes that the data memory means
@@ -60,7 +60,7 @@ module _ {P I D : Type 0} (instructions : Meaning I) (words : Meaning D) where
   state_of m = record {
     address = m.latches.f;
     registers = m.registers;
-    data_memory = words.view.byte m.«data»;
+    data_memory = data_memory.view.byte m.data_memory;
   }
 
 -- where the pipeline has stopped, the sequential machine stops at s with the same cause and address
@@ -79,17 +79,17 @@ stopped_count (Some stop) = 1
 
 -- ---- the agreement of m, which a history h led to, with first, which has just been loaded
 
-module _ {P I D : Type 0} (table : TableOf P) (instructions : Meaning I) (words : Meaning D) where
+module _ {P I D : Type 0} (table : TableOf P) (instructions : Meaning I) (data_memory : Meaning D) where
   -- the longest waits that the two memories state
   abbrev pub longest_waits : Core P I D → ℕ
   longest_waits first =
-      instructions.view.longest first.instructions + words.view.longest first.«data»
+      instructions.view.longest first.instructions + data_memory.view.longest first.data_memory
 
   abbrev pub first_world : Core P I D → World
-  first_world first = world_of instructions words first
+  first_world first = world_of instructions data_memory first
 
   abbrev pub first_state : Core P I D → State
-  first_state first = state_of instructions words first
+  first_state first = state_of instructions data_memory first
 
   -- (a) what retired, the registers, the stop and the data bytes are the sequential machine's
   pub record Sequentially (first : Core P I D) (h : List Event) (m : Core P I D) : Type 0 where
@@ -97,7 +97,7 @@ module _ {P I D : Type 0} (table : TableOf P) (instructions : Meaning I) (words 
     pub steps : Steps (first_world first) (first_state first) (retirements h) reached
     pub registers : m.registers ≡ reached.registers
     pub stops : StopAgrees (first_world first) reached m.stopped
-    pub bytes : BytesAgree (first_world first) reached m.latches.w (words.view.byte m.«data»)
+    pub bytes : BytesAgree (first_world first) reached m.latches.w (data_memory.view.byte m.data_memory)
 
   -- (b) no wait is longer than the memories' longest allow
   pub record InTime (first : Core P I D) (h : List Event) : Type 0 where

@@ -42,17 +42,17 @@ module _ (size : ℕ) where
 
   -- text is the size of the instruction memory
   abbrev pub plans : ℕ → Registers → Latches → Option Reply → Result (Option Request) Cause
-  plans text g k reply = fetch_request text k.f (decodes g k reply).flow
+  plans instructions_size g k reply = fetch_request instructions_size k.f (decodes g k reply).flow
 
   abbrev pub fetches : ℕ → Registers → Latches → Option Reply → Option Fetched → FetchOut
-  fetches text g k reply x =
+  fetches instructions_size g k reply x =
       fetch_stage
-      k.f k.d (decodes g k reply).flow (plans text g k reply) x (executes k reply).redirect
+      k.f k.d (decodes g k reply).flow (plans instructions_size g k reply) x (executes k reply).redirect
 
   abbrev pub latches_after : ℕ → Registers → Latches → Option Reply → Option Fetched → Latches
-  latches_after text g k reply x = record {
-    f = (fetches text g k reply x).f;
-    d = (fetches text g k reply x).d;
+  latches_after instructions_size g k reply x = record {
+    f = (fetches instructions_size g k reply x).f;
+    d = (fetches instructions_size g k reply x).d;
     x = (decodes g k reply).x;
     m = (executes k reply).m;
     w = (completes k reply).w;
@@ -98,48 +98,48 @@ move_notes size g k reply answer = record {
 -- ---- the clock
 
 -- the sizes of the two memories
-abbrev pub text_size : {P I D : Type 0} → Meaning I → Core P I D → ℕ
-text_size instructions m = instructions.view.size m.instructions
+abbrev pub size_of_instructions : {P I D : Type 0} → Meaning I → Core P I D → ℕ
+size_of_instructions instructions m = instructions.view.size m.instructions
 
-abbrev pub data_size : {P I D : Type 0} → Meaning D → Core P I D → ℕ
-data_size words m = words.view.size m.«data»
+abbrev pub size_of_data : {P I D : Type 0} → Meaning D → Core P I D → ℕ
+size_of_data data_memory m = data_memory.view.size m.data_memory
 
-module _ {P I D : Type 0} (table : TableOf P) (instructions : Meaning I) (words : Meaning D) where
+module _ {P I D : Type 0} (table : TableOf P) (instructions : Meaning I) (data_memory : Meaning D) where
   -- W is written back and the rest moves on, by the replies of the two memories
   pub record Moved (m : Core P I D) (e : Event) (n : Core P I D) : Type 0 where
     pub reply : Option Reply
     pub answer : Option Reply
     pub taught : Taught table m.predictor (outcome_of (retirement_of m.latches.w)) n.predictor
-    pub data_asked : Asked words m.«data»
-        (bus_request (data_request (data_size words m) m.latches.m)) reply n.«data»
+    pub data_asked : Asked data_memory m.data_memory
+        (bus_request (data_request (size_of_data data_memory m) m.latches.m)) reply n.data_memory
     pub registers : n.registers ≡ write_back m.registers m.latches.w
-    pub text_asked : Asked instructions m.instructions
+    pub instructions_asked : Asked instructions m.instructions
         (bus_request
-        (plans (data_size words m) (text_size instructions m) n.registers m.latches reply))
+        (plans (size_of_data data_memory m) (size_of_instructions instructions m) n.registers m.latches reply))
         answer n.instructions
     pub latches : n.latches
-        ≡ latches_after (data_size words m) (text_size instructions m) n.registers m.latches reply
+        ≡ latches_after (size_of_data data_memory m) (size_of_instructions instructions m) n.registers m.latches reply
         (arrival table n.predictor m.latches.f answer)
     pub runs_on : n.stopped ≡ None
     pub counted : Counted m.counts
         (has_fetched
-        (plans (data_size words m) (text_size instructions m) n.registers m.latches reply)
+        (plans (size_of_data data_memory m) (size_of_instructions instructions m) n.registers m.latches reply)
         (arrival table n.predictor m.latches.f answer))
         (is_some (retirement_of m.latches.w))
-        (dropped_count m.latches (completes (data_size words m) m.latches reply).flow
-        (executes (data_size words m) m.latches reply).flow)
+        (dropped_count m.latches (completes (size_of_data data_memory m) m.latches reply).flow
+        (executes (size_of_data data_memory m) m.latches reply).flow)
         n.counts
     pub event : e ≡ record {
       clock = clock_record n.counts.clocks m.latches
-          (move_notes (data_size words m) n.registers m.latches reply answer);
+          (move_notes (size_of_data data_memory m) n.registers m.latches reply answer);
       retirement = retirement_of m.latches.w;
     }
 
   -- the machine stops: W is emptied and both memories idle
   pub record Halted (stop : Stop) (m : Core P I D) (e : Event) (n : Core P I D) : Type 0 where
     pub same_predictor : n.predictor ≡ m.predictor
-    pub data_idle : words.idles m.«data» n.«data»
-    pub text_idle : instructions.idles m.instructions n.instructions
+    pub data_idle : data_memory.idles m.data_memory n.data_memory
+    pub instructions_idle : instructions.idles m.instructions n.instructions
     pub same_registers : n.registers ≡ m.registers
     pub latches : n.latches ≡ record m.latches { w = Empty }
     pub stops : n.stopped ≡ Some stop

@@ -18,7 +18,7 @@ use Rattle.rv32i_words.specs.Issues.{issued}
 use Rattle.rv32i_words.specs.Words.{decoded}
 use Rattle.sequential.specs.declared.record.Stop.{Stop}
 use Rattle.clocking.specs.WriteBack.{stop_of}
-use Rattle.clocking.specs.Clock.{data_size, text_size}
+use Rattle.clocking.specs.Clock.{size_of_data, size_of_instructions}
 use Rattle.clocking.specs.Counting.{is_wait}
 use Rattle.clocking.specs.Ports.{TableOf, Asked}
 use Rattle.clocking.specs.Decode.{gives, value_of}
@@ -204,7 +204,7 @@ module _ (size : ℕ) (k : Latches) (reply : Option Reply) where
 
   -- what the instruction memory is asked for, if it has that size
   abbrev pub f_asks : ℕ → Option Request
-  f_asks text = if d_is_free && within text k.f then Some (Read k.f) else None
+  f_asks instructions_size = if d_is_free && within instructions_size k.f then Some (Read k.f) else None
 
   -- what a rollback removes
   abbrev pub dropped_addresses : List ℕ
@@ -254,14 +254,14 @@ module _ (size : ℕ) (k : Latches) (reply : Option Reply) where
 
   -- D and F after the clock; text is the size of the instruction memory, guess is F after a word
   pub record FetchLaw
-      (text : ℕ) (guess : ℕ → ℕ) (answer : Option Reply) (n : Latches) : Type 0 where
+      (instructions_size : ℕ) (guess : ℕ → ℕ) (answer : Option Reply) (n : Latches) : Type 0 where
     pub data_rolls : rolls_by_data ≡ true → (n.d ≡ Empty) × (n.f ≡ k.f)
     pub execute_rolls : rolls_by_execute ≡ true → (n.d ≡ Empty) × (n.f ≡ x_next k.x)
     pub stalls : d_stalls ≡ true → (n.d ≡ k.d) × (n.f ≡ k.f)
     pub misaligned : d_is_free ≡ true → (k.f % 4 == 0) ≡ false
         → (n.d ≡ Faulting (record { address = k.f; cause = InstructionMisaligned }))
         × (n.f ≡ following k.f)
-    pub outside : d_is_free ≡ true → (k.f % 4 == 0) ≡ true → nat_lt k.f text ≡ false
+    pub outside : d_is_free ≡ true → (k.f % 4 == 0) ≡ true → nat_lt k.f instructions_size ≡ false
         → (n.d ≡ Faulting (record { address = k.f; cause = InstructionAccessFault }))
         × (n.f ≡ following k.f)
     pub waits : is_wait answer ≡ true → (n.d ≡ Empty) × (n.f ≡ k.f)
@@ -286,36 +286,36 @@ module _ (size : ℕ) (k : Latches) (reply : Option Reply) where
 
 -- ---- the laws of a clock
 
-module _ {P I D : Type 0} (table : TableOf P) (instructions : Meaning I) (words : Meaning D) where
+module _ {P I D : Type 0} (table : TableOf P) (instructions : Meaning I) (data_memory : Meaning D) where
   -- W does not stop the machine
   pub record GoingOn (m : Core P I D) (e : Event) (n : Core P I D) : Type 0 where
     -- of the data memory and of the instruction memory
     pub reply : Option Reply
     pub answer : Option Reply
     pub runs_on : n.stopped ≡ None
-    pub data_asked : Asked words m.«data»
-        (m_asks (m_request (data_size words m) m.latches.m)) reply n.«data»
-    pub text_asked : Asked instructions m.instructions
-        (f_asks (data_size words m) m.latches reply (text_size instructions m))
+    pub data_asked : Asked data_memory m.data_memory
+        (m_asks (m_request (size_of_data data_memory m) m.latches.m)) reply n.data_memory
+    pub instructions_asked : Asked instructions m.instructions
+        (f_asks (size_of_data data_memory m) m.latches reply (size_of_instructions instructions m))
         answer n.instructions
-    pub decoding : DecodeLaw (data_size words m) m.latches reply (value_of n.registers) n.latches.x
-    pub fetching : FetchLaw (data_size words m) m.latches reply (text_size instructions m)
+    pub decoding : DecodeLaw (size_of_data data_memory m) m.latches reply (value_of n.registers) n.latches.x
+    pub fetching : FetchLaw (size_of_data data_memory m) m.latches reply (size_of_instructions instructions m)
         (λ w. guess_of table n.predictor m.latches.f (decoded w)) answer n.latches
-    pub flights : FlightLaw (data_size words m) m.latches reply m.counts n.latches n.counts
+    pub flights : FlightLaw (size_of_data data_memory m) m.latches reply m.counts n.latches n.counts
     pub retires : is_some e.retirement ≡ is_occupied m.latches.w
     pub notes : e.clock.notes ≡ record {
       fetch_wait = is_wait answer;
-      hazard = has_hazard (data_size words m) m.latches reply;
+      hazard = has_hazard (size_of_data data_memory m) m.latches reply;
       data_wait = is_wait reply;
-      rollback = rolls (data_size words m) m.latches reply;
+      rollback = rolls (size_of_data data_memory m) m.latches reply;
       stop = false;
     }
 
   -- W stops it
   pub record Ending (stop : Stop) (m : Core P I D) (e : Event) (n : Core P I D) : Type 0 where
     pub stops : n.stopped ≡ Some stop
-    pub data_idles : words.idles m.«data» n.«data»
-    pub text_idles : instructions.idles m.instructions n.instructions
+    pub data_idles : data_memory.idles m.data_memory n.data_memory
+    pub instructions_idles : instructions.idles m.instructions n.instructions
     pub flights : flight m.latches ≡ stop.address ∷ flight n.latches
     pub fetch_address : n.latches.f ≡ m.latches.f
     pub fetched_count : n.counts.fetched ≡ m.counts.fetched

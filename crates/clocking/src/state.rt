@@ -18,7 +18,7 @@ pub struct Core<P: Predictor, I: Memory, D: Memory> {
     pub memo: Memo,
     pub predictor: P,
     pub instructions: I,
-    pub data: D,
+    pub data_memory: D,
 }
 
 /// What happened in a clock besides instructions moving on.

@@ -26,12 +26,12 @@ gaps_hear g es k (one_more {es = fs} {l = i} e q h f a) =
     a ∙ ap (λ (x : Gaps). gaps_after x (retired_entries (e ∷ []))) (gaps_hear g fs i h) ∙ sym (gaps_append g (retired_entries fs) (retired_entries (e ∷ [])))
     ∙ ap (gaps_after g) (sym (retired_after fs (e ∷ [])))
 
-module _ {P I D : Type 0} (table : TableOf P) (instructions : Meaning I) (words : Meaning D) where
+module _ {P I D : Type 0} (table : TableOf P) (instructions : Meaning I) (data_memory : Meaning D) where
   -- a stretch whose listener is never full
-  module _ (m : Machine P I D) (n : ℕ) (r : Run) (es : List Event) (p : Machine P I D) (ran : RunHeardCall table instructions words false m n r es p) where
+  module _ (m : Machine P I D) (n : ℕ) (r : Run) (es : List Event) (p : Machine P I D) (ran : RunHeardCall table instructions data_memory false m n r es p) where
     made_some : (why : ℕ) → EndedAt false p n r.made why → refusal_at false m ≡ 0 → 0 < n → r.made ≡ 0 → ⊥
     made_some zero e u rn z = let all = e.0 in omega arith
-    made_some (suc why) e u rn z = let says = rw (none_made table instructions words (λ _. false) m r.made es p ran.0 z) at e.1 in omega arith
+    made_some (suc why) e u rn z = let says = rw (none_made table instructions data_memory (λ _. false) m r.made es p ran.0 z) at e.1 in omega arith
 
     short_when_stopped : (why : ℕ) → EndedAt false p n r.made why → r.made < n → p.held ≡ false → p.core.counts.clocks < 4294967295 → is_stopped p ≡ true
     short_when_stopped zero e lt h c = let all = e.0 in absurd (omega arith)
@@ -41,11 +41,11 @@ module _ {P I D : Type 0} (table : TableOf P) (instructions : Meaning I) (words 
     some_made u rn = positive r.made (made_some (reason r.why) ran.1 u rn)
 
     pub stopped_short : m.held ≡ false → r.made < n → p.core.counts.clocks < 4294967295 → is_stopped p ≡ true
-    stopped_short h lt c = short_when_stopped (reason r.why) ran.1 lt (clocks_held table instructions words (λ _. false) m r.made es p ran.0 ∙ h) c
+    stopped_short h lt c = short_when_stopped (reason r.why) ran.1 lt (clocks_held table instructions data_memory (λ _. false) m r.made es p ran.0 ∙ h) c
 
   -- a stretch more
-  pub reached_on : (m : Machine P I D) (g : Gaps) (p : Machine P I D) (k : Gaps) (n : ℕ) (r : Run) (q : Machine P I D) (j : Gaps) → Reached table instructions words m g p k
-      → HeardRun (λ g e k. k ≡ gaps_after g (retired_entries (e ∷ []))) (λ _. false) table instructions words k p n r j q → Reached table instructions words m g q j
+  pub reached_on : (m : Machine P I D) (g : Gaps) (p : Machine P I D) (k : Gaps) (n : ℕ) (r : Run) (q : Machine P I D) (j : Gaps) → Reached table instructions data_memory m g p k
+      → HeardRun (λ g e k. k ≡ gaps_after g (retired_entries (e ∷ []))) (λ _. false) table instructions data_memory k p n r j q → Reached table instructions data_memory m g q j
   reached_on m g p k n r q j before (es, ran, heard) =
       record {
         history = before.history ++ es;

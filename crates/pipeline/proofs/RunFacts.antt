@@ -31,29 +31,29 @@ pub refused_when_stopped : {P I D : Type 0} (p : Machine P I D) (why : ℕ) (b :
 refused_when_stopped p why true s h c e = s
 refused_when_stopped p why false s h c e = let none = unrefused p h s c in absurd (omega arith)
 
-module _ {P I D : Type 0} (table : TableOf P) (instructions : Meaning I) (words : Meaning D) where
+module _ {P I D : Type 0} (table : TableOf P) (instructions : Meaning I) (data_memory : Meaning D) where
   -- a clock counts itself
-  worked_counts : (o : Option Stop) (m : Core P I D) (e : Event) (n : Core P I D) → Worked table instructions words o m e n → n.counts.clocks ≡ m.counts.clocks + 1
+  worked_counts : (o : Option Stop) (m : Core P I D) (e : Event) (n : Core P I D) → Worked table instructions data_memory o m e n → n.counts.clocks ≡ m.counts.clocks + 1
   worked_counts None m e n w = w.counted.clock_count
   worked_counts (Some stop) m e n w = w.counted.clock_count
 
   module _ (fulls : List Event → Bool) (m : Machine P I D) where
-    clocks_count : (k : ℕ) (es : List Event) (n : Machine P I D) → FreeClocks table instructions words fulls m k es n → n.core.counts.clocks ≡ m.core.counts.clocks + k
+    clocks_count : (k : ℕ) (es : List Event) (n : Machine P I D) → FreeClocks table instructions data_memory fulls m k es n → n.core.counts.clocks ≡ m.core.counts.clocks + k
     clocks_count k es n start = omega arith
     clocks_count k es n (next {k = i} {es = fs} {n = p} e q c f t) =
         let one = worked_counts (stop_of p.core.latches.w) p.core e q.core t.cycled in
         let before = clocks_count i fs p c in omega arith
 
-    pub clocks_held : (k : ℕ) (es : List Event) (n : Machine P I D) → FreeClocks table instructions words fulls m k es n → n.held ≡ m.held
+    pub clocks_held : (k : ℕ) (es : List Event) (n : Machine P I D) → FreeClocks table instructions data_memory fulls m k es n → n.held ≡ m.held
     clocks_held k es n start = refl
     clocks_held k es n (next {k = i} {es = fs} {n = p} e q c f t) = t.same_held ∙ clocks_held i fs p c
 
     -- no clocks, no change
-    pub none_made : (k : ℕ) (es : List Event) (n : Machine P I D) → FreeClocks table instructions words fulls m k es n → k ≡ 0 → n ≡ m
+    pub none_made : (k : ℕ) (es : List Event) (n : Machine P I D) → FreeClocks table instructions data_memory fulls m k es n → k ≡ 0 → n ≡ m
     none_made k es n start z = refl
     none_made k es n (next e q c f t) z = absurd (omega arith)
 
-    module _ (n : ℕ) (r : Run) (es : List Event) (full : Bool) (p : Machine P I D) (made : FreeClocks table instructions words fulls m r.made es p) (ends : EndedAt full p n r.made (reason r.why)) where
+    module _ (n : ℕ) (r : Run) (es : List Event) (full : Bool) (p : Machine P I D) (made : FreeClocks table instructions data_memory fulls m r.made es p) (ends : EndedAt full p n r.made (reason r.why)) where
       made_within : (why : ℕ) → EndedAt full p n r.made why → r.made ≤ n
       made_within zero e = let all = e.0 in omega arith
       made_within (suc why) e = ⊎_elim (λ y. omega arith) (λ y. omega arith) e.0
@@ -106,8 +106,8 @@ ended_why n a b es p made (suc why) la lb e h k c bound =
     (λ x. let spent = eqb-true p.core.counts.clocks 4294967295 x in inr (omega arith))))
     (says_no (is_full (with_events (empty_logs a b) es)) p (λ z. let some = e.1 in omega arith))
 
-module _ {P I D : Type 0} (table : TableOf P) (instructions : Meaning I) (words : Meaning D) where
-  pub events_counted : (l : Logs) (m : Machine P I D) (k : ℕ) (es : List Event) (n : Machine P I D) → Clocks table instructions words l m k es n → length es ≡ k
+module _ {P I D : Type 0} (table : TableOf P) (instructions : Meaning I) (data_memory : Meaning D) where
+  pub events_counted : (l : Logs) (m : Machine P I D) (k : ℕ) (es : List Event) (n : Machine P I D) → Clocks table instructions data_memory l m k es n → length es ≡ k
   events_counted l m k es n start = refl
   events_counted l m k es n (next {k = i} {es = fs} {n = p} e q c f t) =
       let before = events_counted l m i fs p c in

@@ -81,12 +81,12 @@ module _ {P I D : Type 0} where
 
 -- ---- one clock
 
-module _ {P I D L : Type 0} (table : TableOf P) (instructions : Meaning I) (words : Meaning D) (heard : L → Event → L → Type 0) (full : L → Bool) where
+module _ {P I D L : Type 0} (table : TableOf P) (instructions : Meaning I) (data_memory : Meaning D) (heard : L → Event → L → Type 0) (full : L → Bool) where
   -- a clock that nothing refuses is made, and heard
   pub ticked : (m n : Machine P I D) (l k : L) (made : Bool) → refusal_at (full l) m ≡ 0
-      → CycleHeard table instructions words heard full m.core l made n.core k
+      → CycleHeard table instructions data_memory heard full m.core l made n.core k
       → n.serial ≡ m.serial → n.held ≡ m.held
-      → (e : Event) × Ticked table instructions words m e n × heard l e k
+      → (e : Event) × Ticked table instructions data_memory m e n × heard l e k
   ticked m n l k true z h s t =
       (h.event, record { same_serial = s; same_held = t; cycled = h.cycled; laws = h.laws }, h.hears (free (full l) m z).room_left)
   ticked m n l k false z h s t =
@@ -113,11 +113,11 @@ module _ {P I D : Type 0} (full : Bool) (p : Machine P I D) (n made : ℕ) where
 
 -- ---- what a listener hears
 
-module _ {P I D L : Type 0} (table : TableOf P) (instructions : Meaning I) (words : Meaning D) (heard : L → Event → L → Type 0) (full : L → Bool) (l : L) (m : Machine P I D) where
+module _ {P I D L : Type 0} (table : TableOf P) (instructions : Meaning I) (data_memory : Meaning D) (heard : L → Event → L → Type 0) (full : L → Bool) (l : L) (m : Machine P I D) where
   -- from the listener l and the machine m, k clocks lead to i and p
   pub record HeardClocks (k : ℕ) (i : L) (p : Machine P I D) : Type 0 where
     pub events : List Event
-    pub steps : FreeClocks table instructions words (λ _. false) m k events p
+    pub steps : FreeClocks table instructions data_memory (λ _. false) m k events p
     pub hears : Heard heard full l events i
 
   pub none_heard : HeardClocks 0 l m
@@ -125,21 +125,21 @@ module _ {P I D L : Type 0} (table : TableOf P) (instructions : Meaning I) (word
 
   module _ (k : ℕ) (i : L) (p : Machine P I D) (cs : HeardClocks k i p) where
     -- a clock more
-    pub one_heard : (j : L) (q : Machine P I D) → refusal_at (full i) p ≡ 0 → (e : Event) × Ticked table instructions words p e q × heard i e j → HeardClocks (k + 1) j q
+    pub one_heard : (j : L) (q : Machine P I D) → refusal_at (full i) p ≡ 0 → (e : Event) × Ticked table instructions data_memory p e q × heard i e j → HeardClocks (k + 1) j q
     one_heard j q z t =
         let room = (free (full i) p z).room_left in
         record { events = cs.events ++ t.0 ∷ []; steps = next t.0 q cs.steps (rw room at z) t.1; hears = one_more t.0 j cs.hears room t.2 }
 
     -- the clock that is refused
-    pub cut_short : (n : ℕ) (why : Refusal) → k < n → refusal_at (full i) p ≡ number why → HeardRun heard full table instructions words l m n (record { made = k; why = Some why }) i p
+    pub cut_short : (n : ℕ) (why : Refusal) → k < n → refusal_at (full i) p ≡ number why → HeardRun heard full table instructions data_memory l m n (record { made = k; why = Some why }) i p
     cut_short n why lt says = (cs.events, (cs.steps, ended (full i) p n k why says (inl lt)), cs.hears)
 
     -- as many as were asked for
-    pub all_made : (n : ℕ) → k ≡ n → (k ≡ 0 → refusal_at (full i) p ≡ 0) → HeardRun heard full table instructions words l m n (record { made = n; why = None }) i p
+    pub all_made : (n : ℕ) → k ≡ n → (k ≡ 0 → refusal_at (full i) p ≡ 0) → HeardRun heard full table instructions data_memory l m n (record { made = n; why = None }) i p
     all_made n e f = (cs.events, (rw (← e) cs.steps, (refl, λ z. f (e ∙ z))), cs.hears)
 
   -- refused before the first
-  pub at_once : (n : ℕ) (why : Refusal) → refusal_at (full l) m ≡ number why → HeardRun heard full table instructions words l m n (record { made = 0; why = Some why }) l m
+  pub at_once : (n : ℕ) (why : Refusal) → refusal_at (full l) m ≡ number why → HeardRun heard full table instructions data_memory l m n (record { made = 0; why = Some why }) l m
   at_once n why says = ([], (start, ended (full l) m n 0 why says (short n)), silence)
 
 -- ---- what a journal hears
@@ -181,14 +181,14 @@ journal_hears j es k (one_more {es = fs} {l = i} e q h f a) =
       roomy_more (logs j) fs e b.1 (ap is_full (sym b.0.added) ∙ f),
     )
 
-module _ {P I D : Type 0} (table : TableOf P) (instructions : Meaning I) (words : Meaning D) where
-  into_logs : (l : Logs) (m : Machine P I D) (k : ℕ) (es : List Event) (n : Machine P I D) → FreeClocks table instructions words (λ _. false) m k es n → Roomy l es
-      → Clocks table instructions words l m k es n
+module _ {P I D : Type 0} (table : TableOf P) (instructions : Meaning I) (data_memory : Meaning D) where
+  into_logs : (l : Logs) (m : Machine P I D) (k : ℕ) (es : List Event) (n : Machine P I D) → FreeClocks table instructions data_memory (λ _. false) m k es n → Roomy l es
+      → Clocks table instructions data_memory l m k es n
   into_logs l m k es n start r = start
   into_logs l m k es n (next {k = i} {es = fs} {n = p} e q c f t) r =
       let b = roomy_less l fs e r in next e q (into_logs l m i fs p c b.0) (rw b.1 f) t
 
   -- the journal that heard a run has all of it in its logs
-  pub ran_into : (j k : Journal) (m p : Machine P I D) (n : ℕ) (r : Run) (es : List Event) → RunHeardCall table instructions words (is_full (logs k)) m n r es p
-      → Adds j es k × Roomy (logs j) es → RunInto table instructions words (logs j) m n r (logs k) p
+  pub ran_into : (j k : Journal) (m p : Machine P I D) (n : ℕ) (r : Run) (es : List Event) → RunHeardCall table instructions data_memory (is_full (logs k)) m n r es p
+      → Adds j es k × Roomy (logs j) es → RunInto table instructions data_memory (logs j) m n r (logs k) p
   ran_into j k m p n r es ran b = (es, (into_logs (logs j) m r.made es p ran.0 b.1, b.0.added, ran.1))

@@ -53,36 +53,36 @@ written_more h put before after made added w e a =
     append_cancel_left before.clocks.records added.clocks (clock_entries made) (sym a.clocks ∙ ap (λ (l : Logs). l.clocks.records) e) in
     (λ i. followed_by put (record { retired = r i; clocks = c i })) ∙ heard_more h put made w
 
-module _ {P I D : Type 0} (table : TableOf P) (instructions : Meaning I) (words : Meaning D) (il : Lawful instructions) (dl : Lawful words) (first : Machine P I D) where
+module _ {P I D : Type 0} (table : TableOf P) (instructions : Meaning I) (data_memory : Meaning D) (il : Lawful instructions) (dl : Lawful data_memory) (first : Machine P I D) where
   record Holds (h : List Event) (m : Core P I D) : Type 0 where
-    kept : Kept table instructions words il dl first.core h m
+    kept : Kept table instructions data_memory il dl first.core h m
     numbered : NumberedFrom 1 h
     bounded : m.counts.clocks ≤ 4294967295
 
-  clock_number : (o : Option Stop) (m : Core P I D) (e : Event) (n : Core P I D) → Worked table instructions words o m e n → (e.clock.clock ≡ n.counts.clocks) × (n.counts.clocks ≡ m.counts.clocks + 1)
+  clock_number : (o : Option Stop) (m : Core P I D) (e : Event) (n : Core P I D) → Worked table instructions data_memory o m e n → (e.clock.clock ≡ n.counts.clocks) × (n.counts.clocks ≡ m.counts.clocks + 1)
   clock_number None m e n w = (ap (λ (x : Event). x.clock.clock) w.event, w.counted.clock_count)
   clock_number (Some stop) m e n w = (ap (λ (x : Event). x.clock.clock) w.event, w.counted.clock_count)
 
-  by_clock : (h : List Event) (full : Bool) (m : Machine P I D) (e : Event) (n : Machine P I D) → Holds h m.core → refusal_at full m ≡ 0 → Ticked table instructions words m e n → Holds (h ++ e ∷ []) n.core
+  by_clock : (h : List Event) (full : Bool) (m : Machine P I D) (e : Event) (n : Machine P I D) → Holds h m.core → refusal_at full m ≡ 0 → Ticked table instructions data_memory m e n → Holds (h ++ e ∷ []) n.core
   by_clock h full m e n k z t =
       let f = free full m z in
       let unspent = f.not_spent in
       let bound = k.bounded in
-      let counts = (kept_agrees table instructions words il dl first.core h m.core k.kept).accounted.clock_count in
+      let counts = (kept_agrees table instructions data_memory il dl first.core h m.core k.kept).accounted.clock_count in
       let few : m.core.counts.clocks + 1 ≤ 4294967295 = grind (arith, nat_tests) in
       let c = clock_number (stop_of m.core.latches.w) m.core e n.core t.cycled in
       record {
-        kept = kept_cycle table instructions words il dl first.core h m.core e n.core k.kept (none_if m.core.stopped f.not_stopped) (omega arith) t.cycled;
+        kept = kept_cycle table instructions data_memory il dl first.core h m.core e n.core k.kept (none_if m.core.stopped f.not_stopped) (omega arith) t.cycled;
         numbered = numbered_more 1 h e k.numbered (omega arith);
         bounded = omega arith;
       }
 
-  by_clocked : (h : List Event) (l j : Logs) (m : Machine P I D) (r : Result (Unit {0}) Refusal) (es : List Event) (n : Machine P I D) → Holds h m.core → ClockCall table instructions words l m r es j n
+  by_clocked : (h : List Event) (l j : Logs) (m : Machine P I D) (r : Result (Unit {0}) Refusal) (es : List Event) (n : Machine P I D) → Holds h m.core → ClockCall table instructions data_memory l m r es j n
       → Holds (h ++ es) n.core × (j ≡ with_events l es)
   by_clocked h l j m (Err why) es n k c = (rw (c.1, c.2, append-nil h) k, c.3 ∙ sym (logged_none l) ∙ ap (with_events l) (sym c.1))
   by_clocked h l j m (Ok u) es n k c = (rw c.1.1 (by_clock h (is_full l) m c.1.0 n k c.0 c.1.2), c.2)
 
-  by_clocks : (h : List Event) (full : List Event → Bool) (m : Machine P I D) (j : ℕ) (es : List Event) (n : Machine P I D) → Holds h m.core → FreeClocks table instructions words full m j es n → Holds (h ++ es) n.core
+  by_clocks : (h : List Event) (full : List Event → Bool) (m : Machine P I D) (j : ℕ) (es : List Event) (n : Machine P I D) → Holds h m.core → FreeClocks table instructions data_memory full m j es n → Holds (h ++ es) n.core
   by_clocks h full m j es n k start = rw (append-nil h) k
   by_clocks h full m j es n k (next {k = i} {es = fs} {n = p} e q c f t) =
       rw (sym (append_assoc h fs (e ∷ []))) (by_clock (h ++ fs) (full fs) p e q (by_clocks h full m i fs p k c) f t)
@@ -99,7 +99,7 @@ module _ {P I D : Type 0} (table : TableOf P) (instructions : Meaning I) (words 
   by_pause h m (Ok u) n k c = rw c.1 k
   by_pause h m (Err why) n k c = rw c.2 k
 
-  by_calls : (h : List Event) (put : Entries) (m : Machine P I D) → Holds [] first.core → Calls table instructions words first h put m → Holds h m.core × (put ≡ entries_of h)
+  by_calls : (h : List Event) (put : Entries) (m : Machine P I D) → Holds [] first.core → Calls table instructions data_memory first h put m → Holds h m.core × (put ≡ entries_of h)
   by_calls h put m k none = (k, refl)
   by_calls h put m k (clock {h = g} {put = q} {m = p} before after r es added n cs c a) =
       let b = by_calls g q p k cs in
@@ -116,11 +116,11 @@ module _ {P I D : Type 0} (table : TableOf P) (instructions : Meaning I) (words 
   by_calls h put m k (pause {h = g} {put = q} {m = p} r n cs c) = let b = by_calls g q p k cs in (by_pause g p r n b.0 c, b.1)
   by_calls h put m k (reading cs) = by_calls h put m k cs
 
-  pub agrees : Fresh table instructions words il dl first.core → Agrees table instructions words first
+  pub agrees : Fresh table instructions data_memory il dl first.core → Agrees table instructions data_memory first
   agrees z h put m cs =
       let zero = z.clocks in
-      let b = by_calls h put m (record { kept = kept_first table instructions words il dl first.core z; numbered = tt; bounded = omega arith }) cs in (
-        kept_agrees table instructions words il dl first.core h m.core b.0.kept,
+      let b = by_calls h put m (record { kept = kept_first table instructions data_memory il dl first.core z; numbered = tt; bounded = omega arith }) cs in (
+        kept_agrees table instructions data_memory il dl first.core h m.core b.0.kept,
         record {
           entries = b.1;
           numbered = λ a e c q.

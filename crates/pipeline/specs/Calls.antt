@@ -48,7 +48,7 @@ pub record Loaded {P I D : Type 0}
   pub none_dropped : m.core.counts.dropped ≡ 0
   pub predictor : m.core.predictor ≡ p
   pub instructions : m.core.instructions ≡ i
-  pub «data» : m.core.«data» ≡ d
+  pub data_memory : m.core.data_memory ≡ d
 
 -- ---- the logs that clocks go to
 
@@ -117,13 +117,13 @@ refusal_at full m =
 abbrev pub refusal : {P I D : Type 0} → Logs → Machine P I D → ℕ
 refusal l m = refusal_at (is_full l) m
 
-module _ {P I D : Type 0} (table : TableOf P) (instructions : Meaning I) (words : Meaning D) where
+module _ {P I D : Type 0} (table : TableOf P) (instructions : Meaning I) (data_memory : Meaning D) where
   -- an accepted clock of the machine: it is what the rule has, and keeps the laws
   pub record Ticked (m : Machine P I D) (e : Event) (n : Machine P I D) : Type 0 where
     pub same_serial : n.serial ≡ m.serial
     pub same_held : n.held ≡ m.held
-    pub cycled : Cycled table instructions words m.core e n.core
-    pub laws : ClockLaws table instructions words m.core e n.core
+    pub cycled : Cycled table instructions data_memory m.core e n.core
+    pub laws : ClockLaws table instructions data_memory m.core e n.core
 
   abbrev pub OneClock : Machine P I D → List Event → Machine P I D → Type 0
   OneClock m es n = (e : Event) × (es ≡ e ∷ []) × Ticked m e n
@@ -144,21 +144,21 @@ module _ {P I D : Type 0} (table : TableOf P) (instructions : Meaning I) (words 
 
 -- a number of accepted clocks in a row, where after some events who hears them may be full
 pub data FreeClocks {P I D : Type 0}
-    (table : TableOf P) (instructions : Meaning I) (words : Meaning D) (full : List Event → Bool)
+    (table : TableOf P) (instructions : Meaning I) (data_memory : Meaning D) (full : List Event → Bool)
     (m : Machine P I D)
     : ℕ → List Event → Machine P I D → Type 0 where
-  start : FreeClocks table instructions words full m 0 [] m
+  start : FreeClocks table instructions data_memory full m 0 [] m
   next : {k : ℕ} {es : List Event} {n : Machine P I D} (e : Event) (p : Machine P I D)
-      → FreeClocks table instructions words full m k es n
+      → FreeClocks table instructions data_memory full m k es n
       → refusal_at (full es) n ≡ 0
-      → Ticked table instructions words n e p
-      → FreeClocks table instructions words full m (k + 1) (es ++ e ∷ []) p
+      → Ticked table instructions data_memory n e p
+      → FreeClocks table instructions data_memory full m (k + 1) (es ++ e ∷ []) p
 
 -- those into logs
 abbrev pub Clocks : {P I D : Type 0} → TableOf P → Meaning I → Meaning D → Logs → Machine P I D
     → ℕ → List Event → Machine P I D → Type 0
-Clocks table instructions words l =
-    FreeClocks table instructions words (λ es. is_full (with_events l es))
+Clocks table instructions data_memory l =
+    FreeClocks table instructions data_memory (λ es. is_full (with_events l es))
 
 -- fewer than asked for, or none asked for
 abbrev pub Short : ℕ → ℕ → Type 0
@@ -176,11 +176,11 @@ EndedAt full p n made why = Short made n × (refusal_at full p ≡ why)
 abbrev pub Ended : {P I D : Type 0} → Logs → Machine P I D → ℕ → ℕ → ℕ → Type 0
 Ended j = EndedAt (is_full j)
 
-module _ {P I D : Type 0} (table : TableOf P) (instructions : Meaning I) (words : Meaning D) where
+module _ {P I D : Type 0} (table : TableOf P) (instructions : Meaning I) (data_memory : Meaning D) where
   -- the clocks es that the call made, and the logs j and the machine p after it
   abbrev pub RunCall : Logs → Machine P I D → ℕ → Run → List Event → Logs → Machine P I D → Type 0
   RunCall l m n r es j p =
-      Clocks table instructions words l m r.made es p
+      Clocks table instructions data_memory l m r.made es p
       × (j ≡ with_events l es)
       × Ended j p n r.made (reason r.why)
 
@@ -189,12 +189,12 @@ module _ {P I D : Type 0} (table : TableOf P) (instructions : Meaning I) (words 
 
 -- ---- a run that a listener hears
 
-module _ {P I D : Type 0} (table : TableOf P) (instructions : Meaning I) (words : Meaning D) where
+module _ {P I D : Type 0} (table : TableOf P) (instructions : Meaning I) (data_memory : Meaning D) where
   -- the clocks es that the call made and the machine p after it; the listener may be full at its end,
   -- and was not before
   abbrev pub RunHeardCall : Bool → Machine P I D → ℕ → Run → List Event → Machine P I D → Type 0
   RunHeardCall full m n r es p =
-      FreeClocks table instructions words (λ _. false) m r.made es p
+      FreeClocks table instructions data_memory (λ _. false) m r.made es p
       × EndedAt full p n r.made (reason r.why)
 
 module _ {L : Type 0} (heard : L → Event → L → Type 0) (full : L → Bool) where
@@ -210,8 +210,8 @@ module _ {L : Type 0} (heard : L → Event → L → Type 0) (full : L → Bool)
   -- the listener i and the machine p after the call: what i heard is what was made
   abbrev pub HeardRun : {P I D : Type 0} → TableOf P → Meaning I → Meaning D
       → L → Machine P I D → ℕ → Run → L → Machine P I D → Type 0
-  HeardRun table instructions words l m n r i p =
-      (es : List Event) × RunHeardCall table instructions words (full i) m n r es p × Heard l es i
+  HeardRun table instructions data_memory l m n r i p =
+      (es : List Event) × RunHeardCall table instructions data_memory (full i) m n r es p × Heard l es i
 
 -- ---- hold and release
 

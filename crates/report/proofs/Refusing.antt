@@ -42,7 +42,7 @@ module _ (s : Setup) (v : Vec ℕ Global) (i d : Stack) (b : Built v (layers s.i
       record {
         sound = rw (fits, made.0, made.1, start_of true run.0);
         instructions = i;
-        words = d;
+        data_memory = d;
         holds_image = record { vector = v; holds = refl; built = b };
         holds_zeros = made.2;
         run = subst P longest run.1;

@@ -25,29 +25,29 @@ use Rattle.report.specs.Timings.{outcomes_of, tables_if, Shown}
 use Rattle.report.specs.declared.lines.Longest.{Longest}
 use Rattle.report.specs.declared.lines.Outcomes.{Outcomes}
 
-module _ {P I D : Type 0} (table : TableOf P) (instructions : Meaning I) (words : Meaning D) where
+module _ {P I D : Type 0} (table : TableOf P) (instructions : Meaning I) (data_memory : Meaning D) where
   -- what a run over logs with room for all of it comes to: its history is what the logs hold
   pub record Whole (n : ℕ) (first last : Machine P I D) (rs : List RetiredAt) (cs : List ClockRecord) : Type 0 where
     pub history : List Event
     pub put : Entries
-    pub calls : Calls table instructions words first history put last
+    pub calls : Calls table instructions data_memory first history put last
     pub finished : first.held ≡ false → first.core.counts.clocks ≡ 0 → Finished n last
     pub retired : rs ≡ retired_entries history
     pub clocks : cs ≡ clock_entries history
 
   pub whole_run : (n : ℕ) (a : List RetiredAt) (b : List ClockRecord) (before after : Journal) (first last : Machine P I D) (r : Run) → n ≤ 4294967295 → logs before ≡ empty_logs a b
-      → length a ≡ n → length b ≡ n → RunInto table instructions words (logs before) first n r (logs after) last
+      → length a ≡ n → length b ≡ n → RunInto table instructions data_memory (logs before) first n r (logs after) last
       → Whole n first last (records after.retirements) (records after.clocks)
   whole_run n a b before after first last r bound empty la lb ran =
       let es = ran.0 in
-      let P : Logs → Type 0 = λ l. RunCall table instructions words l first n r es (logs after) last in
+      let P : Logs → Type 0 = λ l. RunCall table instructions data_memory l first n r es (logs after) last in
       let made : P (empty_logs a b) = subst P empty ran.1 in
       let l = empty_logs a b in
       let filled : logs after ≡ with_events l es = made.1 in
       let fulls : List Event → Bool = λ x. is_full (with_events l x) in
-      let on = clocks_on table instructions words fulls first n r es (is_full (logs after)) last made.0 made.2 in
-      let past = not_past table instructions words fulls first n r es (is_full (logs after)) last made.0 made.2 in
-      let counted = events_counted table instructions words l first r.made es last made.0 in
+      let on = clocks_on table instructions data_memory fulls first n r es (is_full (logs after)) last made.0 made.2 in
+      let past = not_past table instructions data_memory fulls first n r es (is_full (logs after)) last made.0 made.2 in
+      let counted = events_counted table instructions data_memory l first r.made es last made.0 in
       let Q : Logs → Type 0 = λ j. Ended j last n r.made (reason r.why) in
       record {
         history = es;
@@ -57,7 +57,7 @@ module _ {P I D : Type 0} (table : TableOf P) (instructions : Meaning I) (words 
         finished = λ held zero. record {
           within = omega arith;
           ended = ended_why n a b es last r.made (reason r.why) la lb (subst Q filled made.2)
-              (held_on table instructions words fulls first n r es (is_full (logs after)) last made.0 made.2 ∙ held) counted (omega arith) bound;
+              (held_on table instructions data_memory fulls first n r es (is_full (logs after)) last made.0 made.2 ∙ held) counted (omega arith) bound;
         };
         retired = ap (λ (x : Logs). x.retired.records) filled;
         clocks = ap (λ (x : Logs). x.clocks.records) filled;
@@ -65,8 +65,8 @@ module _ {P I D : Type 0} (table : TableOf P) (instructions : Meaning I) (words 
 
   module _ (s : Setup) (w : Longest) (first last : Machine P I D) where
     -- with no log
-    pub unlogged_shown : (g k : Gaps) (o : Outcomes) (text : List ℕ) → s.log ≡ false → g ≡ none_yet → RanTo table instructions words s.clocks first g last k → o ≡ outcomes_of last k
-        → text ≡ report_text s w o → Shown table instructions words s w first text
+    pub unlogged_shown : (g k : Gaps) (o : Outcomes) (text : List ℕ) → s.log ≡ false → g ≡ none_yet → RanTo table instructions data_memory s.clocks first g last k → o ≡ outcomes_of last k
+        → text ≡ report_text s w o → Shown table instructions data_memory s w first text
     unlogged_shown g k o text unasked fresh ran oe te =
         let h = ran.reached.history in
         let gaps : k ≡ gaps_after none_yet (retired_entries h) = ran.reached.gaps ∙ ap (λ (x : Gaps). gaps_after x (retired_entries h)) fresh in
@@ -86,7 +86,7 @@ module _ {P I D : Type 0} (table : TableOf P) (instructions : Meaning I) (words 
 
     -- with every clock in the logs
     pub logged_shown : (g : Gaps) (o : Outcomes) (rs : List RetiredAt) (cs : List ClockRecord) (text : List ℕ) → s.log ≡ true → Whole s.clocks first last rs cs → g ≡ gaps_after none_yet rs
-        → o ≡ outcomes_of last g → text ≡ two_tables rs cs ++ report_text s w o → Shown table instructions words s w first text
+        → o ≡ outcomes_of last g → text ≡ two_tables rs cs ++ report_text s w o → Shown table instructions data_memory s w first text
     logged_shown g o rs cs text asked whole ge oe te =
         let h = whole.history in
         let gaps : g ≡ gaps_after none_yet (retired_entries h) = ge ∙ ap (gaps_after none_yet) whole.retired in

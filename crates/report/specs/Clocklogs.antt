@@ -20,13 +20,13 @@ use Rattle.report.specs.Finishing.{Finished}
 pub record ClockPrinted (image text : List ℕ) : Type 0 where
   pub predictor : Never
   pub instructions : Flat
-  pub words : Flat
+  pub data_memory : Flat
   pub holds_image : vec_items (flat_bytes instructions) ≡ image
   pub image_whole : flat_size instructions ≡ length image
-  pub holds_zeros : vec_items (flat_bytes words) ≡ replicate 4096 0
-  pub data_whole : flat_size words ≡ 4096
+  pub holds_zeros : vec_items (flat_bytes data_memory) ≡ replicate 4096 0
+  pub data_whole : flat_size data_memory ≡ 4096
   pub first : Machine Never Flat Flat
-  pub loaded : Loaded (flat_size instructions) 0 0 predictor instructions words first
+  pub loaded : Loaded (flat_size instructions) 0 0 predictor instructions data_memory first
   pub agrees : Agrees (λ _. never) flat_means flat_means first
   pub history : List Event
   pub put : Entries

@@ -43,11 +43,11 @@ abbrev pub timing_text : {P I D : Type 0} → Setup → Longest → List Event �
 timing_text s w h m = tables_if s.log h ++ report_text s w (outcomes_of m (gaps_after none_yet (retired_entries h)))
 
 -- the text is that of a run of a machine that was just loaded
-pub record Shown {P I D : Type 0} (table : TableOf P) (instructions : Meaning I) (words : Meaning D) (s : Setup) (w : Longest) (first : Machine P I D) (text : List ℕ) : Type 0 where
+pub record Shown {P I D : Type 0} (table : TableOf P) (instructions : Meaning I) (data_memory : Meaning D) (s : Setup) (w : Longest) (first : Machine P I D) (text : List ℕ) : Type 0 where
   pub history : List Event
   pub put : Entries
   pub last : Machine P I D
-  pub calls : Calls table instructions words first history put last
+  pub calls : Calls table instructions data_memory first history put last
   pub finished : first.held ≡ false → first.core.counts.clocks ≡ 0 → Finished s.clocks last
   pub shown : text ≡ timing_text s w history last
 
@@ -62,17 +62,17 @@ module _ {I : Type 0} (instructions : Meaning I) where
   abbrev pub BadStart : Setup → I → ℕ → Type 0
   BadStart s i why = (why ≡ 3) × (starts_in s i ≡ false)
 
-module _ {I D : Type 0} (instructions : Meaning I) (words : Meaning D) where
+module _ {I D : Type 0} (instructions : Meaning I) (data_memory : Meaning D) where
   -- the longest waits that two memories state
   abbrev pub longest_over : I → D → Longest
-  longest_over i d = record { instructions = instructions.view.longest i; data_memory = words.view.longest d }
+  longest_over i d = record { instructions = instructions.view.longest i; data_memory = data_memory.view.longest d }
 
   -- the machine is loaded with these memories and a fresh predictor
   pub record Assembled (s : Setup) (i : I) (d : D) (m : Machine Chosen I D) : Type 0 where
     pub predictor : Chosen
     pub guesses : chosen_table predictor ≡ chosen_fresh s.predictor
     pub loaded : Loaded (instructions.view.size i) 0 s.start predictor i d m
-    pub agrees : Agrees chosen_table instructions words m
+    pub agrees : Agrees chosen_table instructions data_memory m
 
   -- the loaded machine with the longest waits of its memories, or refusal 3
   abbrev pub AssemblyAnswer : Setup → I → D → Result (Assembly Chosen I D) Refusal → Type 0
@@ -83,7 +83,7 @@ module _ {I D : Type 0} (instructions : Meaning I) (words : Meaning D) where
   pub record RunOver (s : Setup) (w : Longest) (i : I) (d : D) (text : List ℕ) : Type 0 where
     pub first : Machine Chosen I D
     pub assembled : Assembled s i d first
-    pub run : Shown chosen_table instructions words s w first text
+    pub run : Shown chosen_table instructions data_memory s w first text
 
   -- the text of the run, or refusal 3; there may be no memory for the text
   abbrev pub RunAnswer : Setup → I → D → Result (String Global) Failure → Type 0
@@ -134,10 +134,10 @@ longest_of s = record { instructions = longest_wait (layers s.instructions); dat
 pub record Timed (s : Setup) (image text : List ℕ) : Type 0 where
   pub sound : refusal_of s (length image) ≡ None
   pub instructions : Stack
-  pub words : Stack
+  pub data_memory : Stack
   pub holds_image : OfBytes (layers s.instructions) image instructions
-  pub holds_zeros : OfBytes (layers s.data_memory) (replicate s.data_size 0) words
-  pub run : RunOver (stack_means instructions) (stack_means words) s (longest_of s) (memory instructions) (memory words) text
+  pub holds_zeros : OfBytes (layers s.data_memory) (replicate s.data_size 0) data_memory
+  pub run : RunOver (stack_means instructions) (stack_means data_memory) s (longest_of s) (memory instructions) (memory data_memory) text
 
 -- The text, or the number of the first check that refuses the set-up. There may be no memory only
 -- where the layers over the instructions fit, and the number of data bytes does.

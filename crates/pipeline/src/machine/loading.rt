@@ -35,10 +35,10 @@ pub fn load<P: Predictor, I: Memory, D: Memory>(
     start: u32,
     predictor: P,
     instructions: I,
-    data: D,
+    data_memory: D,
 ) -> Machine<P, I, D>
     ensures starts { Loaded (I.Memory.means.view.size instructions)
-        serial start predictor instructions «data» result }
+        serial start predictor instructions data_memory result }
     ensures agrees { Agrees P.Predictor.table I.Memory.means D.Memory.means result }
 {
     let f = if is_within(instructions.size(), start) {
@@ -68,7 +68,7 @@ pub fn load<P: Predictor, I: Memory, D: Memory>(
             memo: Memo::new(),
             predictor,
             instructions,
-            data,
+            data_memory,
         },
     }
 }

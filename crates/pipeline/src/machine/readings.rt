@@ -36,9 +36,9 @@ impl<P: Predictor, I: Memory, D: Memory> Machine<P, I, D> {
 
     /// The data byte at an address; refused outside.
     pub fn byte(&self, address: u32) -> Result<u8, Refusal>
-        ensures { ByteRead D.Memory.means.view self.now.core.«data» address result }
+        ensures { ByteRead D.Memory.means.view self.now.core.data_memory address result }
     {
-        byte_at(&self.core.data, address)
+        byte_at(&self.core.data_memory, address)
     }
 
     /// The address to fetch.

@@ -31,16 +31,16 @@ turn g c =
     let r = c.run_heard.result in
     let table = g.P.Predictor.table in
     let text = g.I.Memory.means in
-    let words = g.D.Memory.means in
-    let on = clocks_on table text words (λ _. false) m n r s.0 false p s.1.0 s.1.1 in
-    let past = not_past table text words (λ _. false) m n r s.0 false p s.1.0 s.1.1 in
+    let data_memory = g.D.Memory.means in
+    let on = clocks_on table text data_memory (λ _. false) m n r s.0 false p s.1.0 s.1.1 in
+    let past = not_past table text data_memory (λ _. false) m n r s.0 false p s.1.0 s.1.1 in
     let held : m.held ≡ false = search rules in
     let running : is_stopped m ≡ false = search rules in
     let free = unrefused m held running (omega arith) in
-    let some = some_made table text words m n r s.0 p s.1 free (omega arith) in
+    let some = some_made table text data_memory m n r s.0 p s.1 free (omega arith) in
     let clocks = clocks_of c.counts-clocks-in-loop-clocks.ensures in
     let whole : is_stopped p ≡ false → p.core.counts.clocks < c.args.limit → r.made < n → ⊥ =
-    λ go under short. true≢false (sym (stopped_short table text words m n r s.0 p s.1 held short (omega arith)) ∙ go) in
+    λ go under short. true≢false (sym (stopped_short table text data_memory m n r s.0 p s.1 held short (omega arith)) ∙ go) in
     record {
       counted = clocks;
       further = omega arith;

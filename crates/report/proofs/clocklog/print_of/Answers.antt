@@ -17,7 +17,7 @@ returns c =
     (λ t e. record {
       predictor = _;
       instructions = c.into_memory.result;
-      words = c.in_ok-data_memory.field-0;
+      data_memory = c.in_ok-data_memory.field-0;
       holds_image = ap vec_items c.into_memory.ensures.bytes;
       image_whole = c.into_memory.ensures.size;
       holds_zeros = c.in_ok-data_memory.ensures.0;

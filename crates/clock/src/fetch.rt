@@ -1,19 +1,18 @@
 //! The fetch stage: the word at F goes to D, and F on to the guess.
 ghost use Rattle.std.specs.Prelude.{◌≡◌, Some, is_some};
 ghost use Rattle.memory.specs.Meaning.{of_read};
-ghost use Rattle.rv32i.specs.Causes.{Gives};
 ghost use Rattle.clocking.specs.Counting.{is_wait};
 ghost use Rattle.clocking.specs.Ports.{arrival};
 ghost use Rattle.clocking.specs.Fetch.{fill_d};
-ghost use Rattle.clock.specs.Fetch.{fetchable, FetchDone};
+ghost use Rattle.clock.specs.Fetch.{FetchDone};
 
 use crate::prediction::guess;
 use clocking::latch::{Fetched, Latch};
 use clocking::stage::Flow;
 use memory::{Memory, Unserved};
 use predictor::Predictor;
-use rv32i::cause::Cause;
 use rv32i_words::memo::Memo;
+use sequential::fetch::fetchable;
 use sequential::record::Stop;
 
 /// Whether a fetch put an instruction into D, and whether the instruction memory said Wait.
@@ -29,20 +28,6 @@ impl Fetching {
         fetched: false,
         waits: false,
     };
-}
-
-/// Whether a word can be fetched at F, or the cause, in an instruction memory of that size.
-#[inline(always)]
-fn fetchable(size: u32, f: u32) -> Result<(), Cause>
-    ensures { Gives (fetchable size f) result }
-{
-    if f % 4 != 0 {
-        Err(Cause::InstructionMisaligned)
-    } else if f >= size {
-        Err(Cause::InstructionAccessFault)
-    } else {
-        Ok(())
-    }
 }
 
 /// The word that the memory answers goes into D with the instruction that it issues, and F on to its guess.

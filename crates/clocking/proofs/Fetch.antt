@@ -39,7 +39,8 @@ redirect_leads (Some n) f q h = h
 
 -- what is asked for f, by whether a word may stand there and whether it is within the memory
 abbrev pub asked_if : ℕ → Bool → Bool → Result (Option Request) Cause
-asked_if f b d = cond b (cond d (Ok (Some (Read f))) (Err InstructionAccessFault)) (Err InstructionMisaligned)
+asked_if f b d =
+    let can : Result (Unit {0}) Cause = cond b (cond d (Ok tt) (Err InstructionAccessFault)) (Err InstructionMisaligned) in and_then can (λ _. Ok (Some (Read f)))
 
 -- what arrives is the word that was read, whatever the guess
 abbrev pub Arrives : ℕ → Option Reply → Option Fetched → Type 0

@@ -26,6 +26,7 @@ use Rattle.clocking.specs.Ports.{TableOf, Asked, guess_after, arrival, bus_reque
 use Rattle.clocking.specs.Data.{data_request}
 use Rattle.clocking.specs.Execute.{execute_stage}
 use Rattle.clocking.specs.Decode.{DecodeOut, decode_moves, decode_stalls, decode_stage, value_of}
+use Rattle.sequential.specs.Sequential.{and_then}
 use Rattle.clocking.specs.Fetch.{FetchOut, fetch_request, resume_at, fill_d, fetches_on, fetch_stage}
 use Rattle.clocking.specs.declared.counts.Counts.{Counts}
 use Rattle.clocking.specs.declared.latch.Fetched.{Fetched}
@@ -188,7 +189,10 @@ both false c e = absurd (false≢true e)
 
 -- ---- fetch
 
-sent_by : (f : ℕ) (b d : Bool) → bus_request (cond b (cond d (Ok (Some (Read f))) (Err InstructionAccessFault)) (Err InstructionMisaligned)) ≡ cond (b && d) (Some (Read f)) None
+abbrev can_fetch : Bool → Bool → Result (Unit {0}) Cause
+can_fetch b d = cond b (cond d (Ok tt) (Err InstructionAccessFault)) (Err InstructionMisaligned)
+
+sent_by : (f : ℕ) (b d : Bool) → bus_request (and_then (can_fetch b d) (λ _. Ok (Some (Read f)))) ≡ cond (b && d) (Some (Read f)) None
 sent_by f true true = refl
 sent_by f true false = refl
 sent_by f false d = refl

@@ -1,10 +1,10 @@
 -- The fetch stage: the word at F goes to D, and F on to the guess. Assumes nothing.
-use Rattle.std.specs.Prelude.{ℕ, ◌%◌, if◌then◌else◌, Some, None, Ok, Err, Option, Result, ◌==◌, nat_lt}
+use Rattle.std.specs.Prelude.{ℕ, Some, None, Ok, Err, Option, Result}
 use Rattle.base.specs.declared.bus.Request.{Request}
 use Rattle.base.specs.declared.bus.Request.TheVariants.{Read}
 use Rattle.rv32i.specs.Effects.{following}
 use Rattle.rv32i.specs.declared.cause.Cause.{Cause}
-use Rattle.rv32i.specs.declared.cause.Cause.TheVariants.{InstructionMisaligned, InstructionAccessFault}
+use Rattle.sequential.specs.Sequential.{and_then, fetchable}
 use Rattle.clocking.specs.declared.latch.Fetched.{Fetched}
 use Rattle.clocking.specs.declared.latch.Latch.{Latch}
 use Rattle.clocking.specs.declared.latch.Latch.TheVariants.{Empty, Faulting, Full}
@@ -18,9 +18,7 @@ pub record FetchOut : Type 0 where
 
 -- what is asked of an instruction memory of that size for f, or the cause of f, by the flow of D
 abbrev pub fetch_request : ℕ → ℕ → Flow → Result (Option Request) Cause
-fetch_request size f Moves =
-    if f % 4 == 0 then (if nat_lt f size then Ok (Some (Read f)) else Err InstructionAccessFault)
-    else Err InstructionMisaligned
+fetch_request size f Moves = and_then (fetchable size f) (λ _. Ok (Some (Read f)))
 fetch_request size f flow = Ok None
 
 abbrev pub resume_at : ℕ → Option ℕ → ℕ

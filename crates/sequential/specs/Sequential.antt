@@ -70,11 +70,15 @@ first_operand s i = operand s.registers (first_source i)
 abbrev pub second_operand : State → Instruction → ℕ
 second_operand s i = operand s.registers (second_source i)
 
+-- whether a word can be fetched at an address of an instruction memory of that size, or the cause
+abbrev pub fetchable : ℕ → ℕ → Result Unit Cause
+fetchable size a =
+    if a % 4 == 0 then (if nat_lt a size then Ok tt else Err InstructionAccessFault)
+    else Err InstructionMisaligned
+
 -- the word at an address of the instruction memory, or the cause why there is none
 unfoldable pub fetch : ℕ → (ℕ → ℕ) → ℕ → Result ℕ Cause
-fetch size instructions a =
-    if a % 4 == 0 then (if nat_lt a size then Ok (word instructions a) else Err InstructionAccessFault)
-    else Err InstructionMisaligned
+fetch size instructions a = and_then (fetchable size a) (λ _. Ok (word instructions a))
 
 -- the instruction at the state's address, stage by stage: it retires, or there is a cause to stop
 unfoldable pub step : World → State → Result Step Cause

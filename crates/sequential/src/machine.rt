@@ -7,6 +7,7 @@ ghost use Rattle.rv32i.specs.Effects.{request};
 ghost use Rattle.sequential.specs.Sequential.{fetch};
 ghost use Rattle.sequential.specs.Stepping.{fetched_word, value_by_reply, Transferred, AdvancesFrom, StepsFrom, SameWorld};
 
+use crate::fetch::fetchable;
 use crate::record::{Retired, Retirement, Stop};
 use base::bus::Request;
 use base::refusal::Refusal;
@@ -56,15 +57,13 @@ fn fetched_word(reply: Reply) -> Result<u32, Cause>
 }
 
 /// The word at an address of the instruction memory, or why there is none.
-#[tactic(auto, using(crate::proofs::Answered::fetch_misaligned, crate::proofs::Answered::fetches, memory::proofs::Rules::same_as))]
+#[tactic(auto, using(crate::proofs::Answered::fetch_faults, crate::proofs::Answered::fetches, memory::proofs::Rules::same_as))]
 fn fetch<I: Memory>(instructions: &mut I, address: u32) -> Result<u32, Cause>
     ensures word { let view = I.Memory.means.view in
         Gives (fetch (view.size instructions.old) (view.byte instructions.old) address) result }
     ensures same { Same I.Memory.means.view instructions.old instructions.new }
 {
-    if address % 4 != 0 {
-        return Err(Cause::InstructionMisaligned);
-    }
+    fetchable(instructions.size(), address)?;
     let answer = insist(instructions, Request::Read { address });
     fetched_word(answer.reply)
 }

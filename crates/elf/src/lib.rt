@@ -5,6 +5,7 @@ ghost use Rattle.elf.specs.Fields.{is_elf};
 
 mod field;
 pub mod fault;
+mod header;
 mod segment;
 mod segments;
 

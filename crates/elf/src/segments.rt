@@ -32,6 +32,13 @@ impl<'a> Iterator for Segments<'a> {
 }
 
 impl<'a> Segments<'a> {
+    /// The segments of program headers.
+    pub fn new(headers: &'a [[u8; 32]]) -> Segments<'a>
+        ensures { result.headers.now ≡ headers.now }
+    {
+        Segments { headers }
+    }
+
     /// The first fault that one of them has by itself, in a file of so many bytes.
     pub fn fault(self, size: usize) -> Option<Fault>
         ensures { result ≡ first_fault size (segments self.entry.headers.now) }

@@ -1,5 +1,5 @@
 -- The header of a file. Assumes nothing.
-use Rattle.std.specs.Prelude.{◌≡◌, ℕ, ◌+◌, ◌*◌, Bool, not, ◌&&◌, ◌||◌, cond, List, length, drop, Some, None, Ok, Err, Option, Result, ◌==◌, nat_lt}
+use Rattle.std.specs.Prelude.{◌≡◌, ℕ, ◌+◌, ◌*◌, not, ◌&&◌, cond, List, length, drop, Some, None, Ok, Err, Option, Result, ◌==◌, nat_lt}
 use Rattle.std.specs.Simd.{first_chunks}
 use Rattle.elf.specs.Fields.{is_elf, byte, half, word}
 use Rattle.elf.specs.declared.fault.Fault.{Fault}

@@ -1,5 +1,5 @@
 -- Segments, as program headers say them. Assumes nothing.
-use Rattle.std.specs.Prelude.{ℕ, ◌+◌, ◌-◌, Bool, true, false, ◌&&◌, ◌||◌, not, cond, List, [], ◌∷◌, Some, None, Option, fold, max, ◌==◌, nat_lt, nat_le}
+use Rattle.std.specs.Prelude.{ℕ, ◌+◌, ◌-◌, Bool, false, ◌&&◌, ◌||◌, not, cond, List, [], ◌∷◌, Some, None, Option, fold, max, ◌==◌, nat_lt, nat_le}
 use Rattle.std.specs.List.{list_any, filter_map}
 use Rattle.std.specs.Option.{option_or}
 use Rattle.elf.specs.Fields.{byte, word}
@@ -52,6 +52,10 @@ segment_fault size s =
 abbrev pub has : Segment → ℕ → Bool
 has s x = nat_le s.physical_address x && nat_lt x (s.physical_address + s.file_size)
 
+-- the byte that it has in the file for a physical address
+abbrev pub stored : List ℕ → Segment → ℕ → ℕ
+stored file s x = byte file (s.offset + (x - s.physical_address))
+
 -- where its bytes in the file end, by the physical address; 0 if it has none
 abbrev pub file_end : Segment → ℕ
 file_end s = cond (s.file_size == 0) 0 (s.physical_address + s.file_size)
@@ -82,3 +86,8 @@ image_size ss = fold (λ end s. max end (file_end s)) 0 ss
 -- where the bytes of all in memory end
 abbrev pub memory_size : List Segment → ℕ
 memory_size ss = fold (λ end s. max end (memory_end s)) 0 ss
+
+-- the byte that one of them has in the file for a physical address; 0 where none has one
+abbrev pub image_byte : List ℕ → List Segment → ℕ → ℕ
+image_byte file [] x = 0
+image_byte file (s ∷ rest) x = cond (has s x) (stored file s x) (image_byte file rest x)

@@ -1,6 +1,6 @@
 //! A segment that is loaded.
-ghost use Rattle.std.specs.Prelude.{◌≡◌, ◌+◌, ◌<◌};
-ghost use Rattle.elf.specs.Segments.{loaded, segment_fault, file_end, memory_end, overlap};
+ghost use Rattle.std.specs.Prelude.{◌≡◌, ℕ, ◌+◌, ◌<◌, ◌≤◌, cond, length, slice_index, EachIndex};
+ghost use Rattle.elf.specs.Segments.{loaded, segment_fault, file_end, memory_end, overlap, has, stored};
 
 use crate::fault::Fault;
 use crate::field::word;
@@ -83,5 +83,19 @@ impl Segment {
             && other.file_size > 0
             && (self.physical_address as usize) < other.file_end()
             && (other.physical_address as usize) < self.file_end()
+    }
+    /// Copies its bytes in the file to where they stand in memory, by its physical address.
+    pub fn put(&self, file: &[u8], image: &mut [u8])
+        requires in_file { 0 < self.now.file_size → self.now.offset + self.now.file_size ≤ length file.now }
+        requires in_image { file_end self.now ≤ length image.old }
+        ensures { EachIndex image.new (λ x. slice_index image.new x ≡ cond (has self.now x) (stored file.now self.now x) (slice_index image.old x)) }
+    {
+        if self.file_size == 0 {
+            return;
+        }
+        let size = self.file_size as usize;
+        let from = self.offset as usize;
+        let to = self.physical_address as usize;
+        image[to..to + size].copy_from_slice(&file[from..from + size]);
     }
 }

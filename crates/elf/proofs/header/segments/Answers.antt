@@ -1,8 +1,6 @@
 -- The part of the file that holds as many program headers is cut into just these.
-use Rattle.std.proofs.Common.{rules, ◌≡◌, ◌∙◌, ℕ, ◌+◌, ◌-◌, ◌*◌, ◌≤◌, arith, length, take, drop}
-use Rattle.std.specs.Simd.{first_chunks}
+use Rattle.std.proofs.Common.{arith}
 use Rattle.std.proofs.lemmas.Grind.{common_steps}
-use Rattle.elf.specs.Headers.{e_phoff, e_phnum}
 use Rattle.elf.proofs.Chunks.{chunks_in_part}
 use Rattle.elf.proofs.header.segments.Goals as goal
 use Rattle.elf.proofs.header.segments.Goals.{else-count-gt0-via-then-count-gt0+else-half-ne32, else-count-gt0-via-else-count-gt0}

@@ -1,2 +1,4 @@
 pub mod Chunks
+pub mod Faultless
+pub mod Images
 pub mod Putting

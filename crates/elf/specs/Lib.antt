@@ -1,4 +1,5 @@
 pub mod Fields
 pub mod Headers
 pub mod Segments
+pub mod Tables
 pub mod Texts

@@ -1,5 +1,5 @@
 -- Segments, as program headers say them. Assumes nothing.
-use Rattle.std.specs.Prelude.{ℕ, ◌+◌, ◌-◌, Bool, false, ◌&&◌, ◌||◌, not, cond, List, [], ◌∷◌, Some, None, Option, fold, max, ◌==◌, nat_lt, nat_le}
+use Rattle.std.specs.Prelude.{◌≡◌, ℕ, length, slice_index, EachIndex, ◌+◌, ◌-◌, Bool, false, ◌&&◌, ◌||◌, not, cond, List, [], ◌∷◌, Some, None, Option, fold, max, ◌==◌, nat_lt, nat_le}
 use Rattle.std.specs.List.{list_any, filter_map}
 use Rattle.std.specs.Option.{option_or}
 use Rattle.elf.specs.Fields.{byte, word}
@@ -87,7 +87,12 @@ image_size ss = fold (λ end s. max end (file_end s)) 0 ss
 abbrev pub memory_size : List Segment → ℕ
 memory_size ss = fold (λ end s. max end (memory_end s)) 0 ss
 
--- the byte that one of them has in the file for a physical address; 0 where none has one
-abbrev pub image_byte : List ℕ → List Segment → ℕ → ℕ
-image_byte file [] x = 0
-image_byte file (s ∷ rest) x = cond (has s x) (stored file s x) (image_byte file rest x)
+-- the byte that one of them has in the file for a physical address; another, d, where none has one
+abbrev pub byte_at : List ℕ → List Segment → ℕ → ℕ → ℕ
+byte_at file [] d x = d
+byte_at file (s ∷ rest) d x = cond (has s x) (stored file s x) (byte_at file rest d x)
+
+-- the image of segments: their bytes in the file at their physical addresses, and zeros between them
+pub record IsImage (file : List ℕ) (ss : List Segment) (image : List ℕ) : Type 0 where
+  pub size_so : length image ≡ image_size ss
+  pub bytes_so : EachIndex image (λ x. slice_index image x ≡ byte_at file ss 0 x)

@@ -1,11 +1,13 @@
 //! The segments of a table of program headers.
 ghost use Rattle.std.specs.Iterator.{YieldsFirst, item_count};
-ghost use Rattle.std.specs.Prelude.{◌≡◌};
+ghost use Rattle.std.specs.Prelude.{◌≡◌, ◌≤◌, false, None, length, slice_index, EachIndex, IfOk};
 ghost use Rattle.std.specs.List.{list_any};
-ghost use Rattle.elf.specs.Segments.{segments, overlap, first_fault, any_overlap, image_size, memory_size};
+ghost use Rattle.elf.specs.Tables.{left};
+ghost use Rattle.elf.specs.Segments.{overlap, first_fault, any_overlap, image_size, memory_size, byte_at, IsImage};
 
 use crate::fault::Fault;
 use crate::segment::Segment;
+use std::alloc::{AllocError, Global};
 
 /// The segments that are loaded, by program headers.
 #[derive(Clone, Copy)]
@@ -16,9 +18,9 @@ pub(crate) struct Segments<'a> {
 impl<'a> Iterator for Segments<'a> {
     type Item = Segment;
 
-    ghost next_gives = { YieldsFirst (λ s. segments s.headers.now) };
+    ghost next_gives = { YieldsFirst left };
 
-    ghost remaining = { item_count (λ s. segments s.headers.now) };
+    ghost remaining = { item_count left };
 
     fn next(&mut self) -> Option<Segment> {
         while let Some((header, others)) = self.headers.split_first() {
@@ -41,7 +43,7 @@ impl<'a> Segments<'a> {
 
     /// The first fault that one of them has by itself, in a file of so many bytes.
     pub fn fault(self, size: usize) -> Option<Fault>
-        ensures { result ≡ first_fault size (segments self.entry.headers.now) }
+        ensures { result ≡ first_fault size (left self.entry) }
     {
         for segment in self {
             if let Some(fault) = segment.fault(size) {
@@ -52,14 +54,14 @@ impl<'a> Segments<'a> {
     }
     /// Whether one of them overlaps a segment.
     fn overlap_with(mut self, segment: &Segment) -> bool
-        ensures { result ≡ list_any (overlap segment.now) (segments self.entry.headers.now) }
+        ensures { result ≡ list_any (overlap segment.now) (left self.entry) }
     {
         self.any(|other| segment.overlaps(&other))
     }
 
     /// Whether two of them overlap.
     pub fn overlap(mut self) -> bool
-        ensures { result ≡ any_overlap (segments self.entry.headers.now) }
+        ensures { result ≡ any_overlap (left self.entry) }
     {
         while let Some(segment) = self.next() {
             if self.overlap_with(&segment) {
@@ -71,15 +73,37 @@ impl<'a> Segments<'a> {
 
     /// Where the bytes of all of them in the file end, by the physical addresses.
     pub fn image_size(self) -> usize
-        ensures { result ≡ image_size (segments self.entry.headers.now) }
+        ensures { result ≡ image_size (left self.entry) }
     {
         self.fold(0, |end, segment| end.max(segment.file_end()))
     }
 
     /// Where the bytes of all of them in memory end, by either address.
     pub fn memory_size(self) -> usize
-        ensures { result ≡ memory_size (segments self.entry.headers.now) }
+        ensures { result ≡ memory_size (left self.entry) }
     {
         self.fold(0, |end, segment| end.max(segment.memory_end()))
+    }
+    /// Copies the bytes of all of them in a file to where they stand in memory, by their physical addresses.
+    fn put(self, file: &[u8], image: &mut [u8])
+        requires faultless { first_fault (length file.now) (left self) ≡ None }
+        requires apart { any_overlap (left self) ≡ false }
+        requires room { image_size (left self) ≤ length image.old }
+        ensures { EachIndex image.new (λ x. slice_index image.new x ≡ byte_at file.now (left self.entry) (slice_index image.old x) x) }
+    {
+        for segment in self {
+            segment.put(file, image);
+        }
+    }
+
+    /// The bytes that they have in a file, each at its physical address, and zeros between them.
+    pub fn image(self, heap: Global, file: &[u8]) -> Result<Vec<u8>, AllocError>
+        requires faultless { first_fault (length file.now) (left self) ≡ None }
+        requires apart { any_overlap (left self) ≡ false }
+        ensures { IfOk result (λ image. IsImage file.now (left self.entry) image.items) }
+    {
+        let mut image = vec![in heap; 0u8; self.image_size()]?;
+        self.put(file, &mut image);
+        Ok(image)
     }
 }

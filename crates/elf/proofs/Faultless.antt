@@ -6,12 +6,12 @@ use Rattle.elf.specs.Segments.{segment_fault, first_fault}
 use Rattle.elf.specs.declared.segment.Segment.{Segment}
 
 -- neither of two gives a fault
-none_parts : {A : Type 0} (o p : Option A) → option_or o p ≡ None → (o ≡ None) × (p ≡ None)
+pub none_parts : {A : Type 0} (o p : Option A) → option_or o p ≡ None → (o ≡ None) × (p ≡ None)
 none_parts None p e = (refl, e)
 none_parts (Some x) p e = absurd cc
 
 -- a test that gives no fault
-passed : {A : Type 0} (b : Bool) (x : A) (o : Option A) → cond b (Some x) o ≡ None → (b ≡ false) × (o ≡ None)
+pub passed : {A : Type 0} (b : Bool) (x : A) (o : Option A) → cond b (Some x) o ≡ None → (b ≡ false) × (o ≡ None)
 passed false x o e = (refl, e)
 passed true x o e = absurd cc
 

@@ -1,5 +1,7 @@
 -- What is said of a file that is refused. Assumes nothing.
 use Rattle.std.specs.Prelude.{ℕ, List, codes}
+use Rattle.elf.specs.declared.error.ReadError.{ReadError}
+use Rattle.elf.specs.declared.error.ReadError.TheVariants.{Faulty, OutOfMemory}
 use Rattle.elf.specs.declared.fault.Fault.{Fault}
 use Rattle.elf.specs.declared.fault.Fault.TheVariants.{NotElf, TruncatedHeader, Not32Bit, NotLittleEndian, NotVersion1, NotRiscV, NotExecutable, HeaderSize, HeadersOutside, SegmentOutside, FileAboveMemory, BeyondPhysical, BeyondVirtual, Overlapping, NothingToLoad}
 
@@ -36,3 +38,7 @@ fault_text BeyondPhysical = codes "the ELF file has a segment that ends beyond 6
 fault_text BeyondVirtual = codes "the ELF file has a segment that ends beyond 65536 by its virtual address"
 fault_text Overlapping = codes "the ELF file has segments that overlap by their physical addresses"
 fault_text NothingToLoad = codes "the ELF file has no segment with bytes to load"
+
+abbrev pub error_text : ReadError → List ℕ
+error_text (Faulty fault) = fault_text fault
+error_text (OutOfMemory error) = codes "there is not enough memory"

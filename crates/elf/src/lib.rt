@@ -3,9 +3,11 @@
 ghost use Rattle.std.specs.Prelude.{◌≡◌};
 ghost use Rattle.elf.specs.Fields.{is_elf};
 
-mod field;
+pub mod error;
 pub mod fault;
+mod field;
 mod header;
+pub mod program;
 mod segment;
 mod segments;
 

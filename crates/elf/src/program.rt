@@ -1,0 +1,54 @@
+//! What an executable loads.
+ghost use Rattle.std.specs.Prelude.{IfOk};
+ghost use Rattle.elf.specs.Programs.{Checked, Reads, IsSmall};
+
+use crate::error::ReadError;
+use crate::fault::Fault;
+use crate::field::word;
+use crate::header::{kind_fault, segments};
+use crate::segments::Segments;
+use std::alloc::Global;
+
+/// What an executable loads.
+#[derive(Drop)]
+pub struct Program {
+    /// The bytes of all segments, from address 0 to the end of the last, each at its physical address, and zeros between.
+    pub bytes: Vec<u8>,
+    /// Where the last byte ends that a segment has in memory, by its physical or its virtual address.
+    pub memory_size: u32,
+    /// The address of the first instruction.
+    pub entry: u32,
+}
+
+/// The segments that a file loads, or its first fault.
+fn checked(file: &[u8]) -> Result<Segments<'_>, Fault>
+    ensures { Checked file.now result }
+{
+    if let Some(fault) = kind_fault(file) {
+        return Err(fault);
+    }
+    let segments = segments(file)?;
+    if let Some(fault) = segments.fault(file.len()) {
+        return Err(fault);
+    }
+    if segments.overlap() {
+        return Err(Fault::Overlapping);
+    }
+    if segments.image_size() == 0 {
+        return Err(Fault::NothingToLoad);
+    }
+    Ok(segments)
+}
+
+/// What a file loads, or its first fault.
+pub fn read(heap: Global, file: &[u8]) -> Result<Program, ReadError>
+    ensures reads { Reads file.now result }
+    ensures small { IfOk result IsSmall }
+{
+    let segments = checked(file)?;
+    Ok(Program {
+        bytes: segments.image(heap, file)?,
+        memory_size: segments.memory_size() as u32,
+        entry: word(file, 24),
+    })
+}

@@ -36,4 +36,5 @@ sound size s e =
       in_file = λ h. ltb-false size (s.offset + s.file_size) (rw (lt-ltb 0 s.file_size h) at within);
       no_more = ltb-false _ _ b.0;
       physical = ltb-false _ _ c.0;
-      virtual = ltb-false _ _ d.0 }
+      virtual = ltb-false _ _ d.0;
+    }

@@ -21,8 +21,9 @@ byte_at-apart file s (t ∷ rest) d x e h =
 pub byte_at-first : (file : List ℕ) (s : Segment) (rest : List Segment) (d x : ℕ) → list_any (overlap s) rest ≡ false → byte_at file rest (cond (has s x) (stored file s x) d) x ≡ byte_at file (s ∷ rest) d x
 byte_at-first file s rest d x e =
     elim (cases_Bool (has s x)) [
-      inl here ↦ rw here (byte_at-apart file s rest (stored file s x) x e here)
-    | inr elsewhere ↦ rw elsewhere refl ]
+      | inl here ↦ rw here (byte_at-apart file s rest (stored file s x) x e here)
+      | inr elsewhere ↦ rw elsewhere refl
+    ]
 
 -- the end of the bytes of some is not below where it began
 end_grows : (ss : List Segment) (n : ℕ) → n ≤ fold (λ end s. max end (file_end s)) n ss

@@ -5,7 +5,7 @@ use Rattle.std.specs.Option.{option_or}
 use Rattle.elf.specs.Fields.{byte, word}
 use Rattle.elf.specs.declared.segment.Segment.{Segment}
 use Rattle.elf.specs.declared.fault.Fault.{Fault}
-use Rattle.elf.specs.declared.fault.Fault.TheVariants.{SegmentOutside, FileAboveMemory, BeyondPhysical, BeyondVirtual}
+use Rattle.elf.specs.declared.fault.Fault.TheVariants.{SegmentOutside, FileAboveMemory, BeyondPhysical, BeyondVirtual, Overlapping, NothingToLoad}
 
 -- the fields of a program header
 abbrev pub p_type : List ℕ → ℕ
@@ -27,14 +27,14 @@ abbrev pub p_memsz : List ℕ → ℕ
 p_memsz header = word header 20
 
 -- it is of a loadable segment, PT_LOAD, that has bytes in the file or in memory
-abbrev pub loads : List ℕ → Bool
-loads header = p_type header == 1 && not (p_filesz header == 0 && p_memsz header == 0)
+abbrev pub is_loaded : List ℕ → Bool
+is_loaded header = p_type header == 1 && not (p_filesz header == 0 && p_memsz header == 0)
 
 abbrev pub segment : List ℕ → Segment
 segment header = record { offset = p_offset header; virtual_address = p_vaddr header; physical_address = p_paddr header; file_size = p_filesz header; memory_size = p_memsz header }
 
 abbrev pub loaded : List ℕ → Option Segment
-loaded header = cond (loads header) (Some (segment header)) None
+loaded header = cond (is_loaded header) (Some (segment header)) None
 
 -- the segments that are loaded, by all program headers
 abbrev pub segments : List (List ℕ) → List Segment
@@ -86,6 +86,13 @@ image_size ss = fold (λ end s. max end (file_end s)) 0 ss
 -- where the bytes of all in memory end
 abbrev pub memory_size : List Segment → ℕ
 memory_size ss = fold (λ end s. max end (memory_end s)) 0 ss
+
+-- what is wrong with segments, in a file of so many bytes
+abbrev pub segments_fault : ℕ → List Segment → Option Fault
+segments_fault size ss =
+    option_or (first_fault size ss)
+    (cond (any_overlap ss) (Some Overlapping)
+    (cond (image_size ss == 0) (Some NothingToLoad) None))
 
 -- the byte that one of them has in the file for a physical address; another, d, where none has one
 abbrev pub byte_at : List ℕ → List Segment → ℕ → ℕ → ℕ

@@ -4,13 +4,12 @@ ghost use Rattle.elf.specs.Programs.{Checked, Reads, IsSmall};
 
 use crate::error::ReadError;
 use crate::fault::Fault;
-use crate::field::word;
-use crate::header::{kind_fault, segments};
+use crate::header::{check_kind, entry, segments};
 use crate::segments::Segments;
 use std::alloc::Global;
 
 /// What an executable loads.
-#[derive(Drop)]
+#[derive(PartialEq, Eq, Debug, Drop)]
 pub struct Program {
     /// The bytes of all segments, from address 0 to the end of the last, each at its physical address, and zeros between.
     pub bytes: Vec<u8>,
@@ -24,19 +23,9 @@ pub struct Program {
 fn checked(file: &[u8]) -> Result<Segments<'_>, Fault>
     ensures { Checked file.now result }
 {
-    if let Some(fault) = kind_fault(file) {
-        return Err(fault);
-    }
+    check_kind(file)?;
     let segments = segments(file)?;
-    if let Some(fault) = segments.fault(file.len()) {
-        return Err(fault);
-    }
-    if segments.overlap() {
-        return Err(Fault::Overlapping);
-    }
-    if segments.image_size() == 0 {
-        return Err(Fault::NothingToLoad);
-    }
+    segments.check(file.len())?;
     Ok(segments)
 }
 
@@ -49,6 +38,6 @@ pub fn read(heap: Global, file: &[u8]) -> Result<Program, ReadError>
     Ok(Program {
         bytes: segments.image(heap, file)?,
         memory_size: segments.memory_size() as u32,
-        entry: word(file, 24),
+        entry: entry(file),
     })
 }

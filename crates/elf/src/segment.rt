@@ -1,15 +1,32 @@
 //! A segment that is loaded.
 ghost use Rattle.std.specs.Prelude.{◌≡◌, ℕ, ◌+◌, ◌<◌, ◌≤◌, cond, length, slice_index, EachIndex};
+ghost use Rattle.std.specs.Result.{result_err};
 ghost use Rattle.elf.specs.Segments.{loaded, segment_fault, file_end, memory_end, overlap, has, stored};
 
 use crate::fault::Fault;
 use crate::field::word;
 
+/// How long a program header is.
+pub(crate) const PROGRAM_HEADER_SIZE: usize = 32;
+
 /// The type of a loadable segment.
 const PT_LOAD: u32 = 1;
 
-/// Where a segment may end.
-const LIMIT: u64 = 65536;
+/// The highest end that a segment may have.
+const LIMIT: usize = 65536;
+
+// Where the fields of a program header stand in it.
+const P_TYPE: usize = 0;
+
+const P_OFFSET: usize = 4;
+
+const P_VADDR: usize = 8;
+
+const P_PADDR: usize = 12;
+
+const P_FILESZ: usize = 16;
+
+const P_MEMSZ: usize = 20;
 
 /// What a program header says of its segment.
 #[derive(Clone, Copy, PartialEq, Eq, Debug)]
@@ -23,39 +40,41 @@ pub(crate) struct Segment {
 
 impl Segment {
     /// The segment of a program header; none where it is not loaded or has no bytes, neither in the file nor in memory.
-    pub fn loaded(header: &[u8; 32]) -> Option<Segment>
+    pub fn loaded(header: &[u8; PROGRAM_HEADER_SIZE]) -> Option<Segment>
         ensures { result ≡ loaded header.now }
     {
         let segment = Segment {
-            offset: word(header, 4),
-            virtual_address: word(header, 8),
-            physical_address: word(header, 12),
-            file_size: word(header, 16),
-            memory_size: word(header, 20),
+            offset: word(header, P_OFFSET),
+            virtual_address: word(header, P_VADDR),
+            physical_address: word(header, P_PADDR),
+            file_size: word(header, P_FILESZ),
+            memory_size: word(header, P_MEMSZ),
         };
-        let loads = word(header, 0) == PT_LOAD
+        let loads = word(header, P_TYPE) == PT_LOAD
             && !(segment.file_size == 0 && segment.memory_size == 0);
         loads.then_some(segment)
     }
 
-    /// The first fault that it has by itself, in a file of so many bytes.
-    pub fn fault(&self, size: usize) -> Option<Fault>
-        ensures { result ≡ segment_fault size self.now }
+    /// Refuses a segment that has a fault by itself, in a file of so many bytes.
+    pub fn check(&self, size: usize) -> Result<(), Fault>
+        ensures { result_err result ≡ segment_fault size self.now }
     {
-        let memory_size = u64::from(self.memory_size);
-        let ends = u64::from(self.offset) + u64::from(self.file_size);
-        if self.file_size > 0 && ends > size as u64 {
-            Some(Fault::SegmentOutside)
-        } else if self.file_size > self.memory_size {
-            Some(Fault::FileAboveMemory)
-        } else if u64::from(self.physical_address) + memory_size > LIMIT {
-            Some(Fault::BeyondPhysical)
-        } else if u64::from(self.virtual_address) + memory_size > LIMIT {
-            Some(Fault::BeyondVirtual)
-        } else {
-            None
+        if self.file_size > 0 && self.offset as usize + self.file_size as usize > size {
+            return Err(Fault::SegmentOutside);
         }
+        if self.file_size > self.memory_size {
+            return Err(Fault::FileAboveMemory);
+        }
+        let memory_size = self.memory_size as usize;
+        if self.physical_address as usize + memory_size > LIMIT {
+            return Err(Fault::BeyondPhysical);
+        }
+        if self.virtual_address as usize + memory_size > LIMIT {
+            return Err(Fault::BeyondVirtual);
+        }
+        Ok(())
     }
+
     /// Where its bytes in the file end, by its physical address; 0 where it has none.
     pub fn file_end(&self) -> usize
         ensures { result ≡ file_end self.now }

@@ -2,17 +2,18 @@
 ghost use Rattle.std.specs.Iterator.{YieldsFirst, item_count};
 ghost use Rattle.std.specs.Prelude.{◌≡◌, ◌≤◌, false, None, length, slice_index, EachIndex, IfOk};
 ghost use Rattle.std.specs.List.{list_any};
+ghost use Rattle.std.specs.Result.{result_err};
 ghost use Rattle.elf.specs.Tables.{left};
-ghost use Rattle.elf.specs.Segments.{overlap, first_fault, any_overlap, image_size, memory_size, byte_at, IsImage};
+ghost use Rattle.elf.specs.Segments.{overlap, first_fault, segments_fault, any_overlap, image_size, memory_size, byte_at, IsImage};
 
 use crate::fault::Fault;
-use crate::segment::Segment;
+use crate::segment::{PROGRAM_HEADER_SIZE, Segment};
 use std::alloc::{AllocError, Global};
 
 /// The segments that are loaded, by program headers.
 #[derive(Clone, Copy)]
 pub(crate) struct Segments<'a> {
-    headers: &'a [[u8; 32]],
+    headers: &'a [[u8; PROGRAM_HEADER_SIZE]],
 }
 
 impl<'a> Iterator for Segments<'a> {
@@ -35,23 +36,12 @@ impl<'a> Iterator for Segments<'a> {
 
 impl<'a> Segments<'a> {
     /// The segments of program headers.
-    pub fn new(headers: &'a [[u8; 32]]) -> Segments<'a>
+    pub fn new(headers: &'a [[u8; PROGRAM_HEADER_SIZE]]) -> Segments<'a>
         ensures { result.headers.now ≡ headers.now }
     {
         Segments { headers }
     }
 
-    /// The first fault that one of them has by itself, in a file of so many bytes.
-    pub fn fault(self, size: usize) -> Option<Fault>
-        ensures { result ≡ first_fault size (left self.entry) }
-    {
-        for segment in self {
-            if let Some(fault) = segment.fault(size) {
-                return Some(fault);
-            }
-        }
-        None
-    }
     /// Whether one of them overlaps a segment.
     fn overlap_with(mut self, segment: &Segment) -> bool
         ensures { result ≡ list_any (overlap segment.now) (left self.entry) }
@@ -84,6 +74,22 @@ impl<'a> Segments<'a> {
     {
         self.fold(0, |end, segment| end.max(segment.memory_end()))
     }
+    /// Refuses segments of which one has a fault by itself, or two overlap, or none has bytes, in a file of so many bytes.
+    pub fn check(self, size: usize) -> Result<(), Fault>
+        ensures { result_err result ≡ segments_fault size (left self.entry) }
+    {
+        for segment in self {
+            segment.check(size)?;
+        }
+        if self.overlap() {
+            return Err(Fault::Overlapping);
+        }
+        if self.image_size() == 0 {
+            return Err(Fault::NothingToLoad);
+        }
+        Ok(())
+    }
+
     /// Copies the bytes of all of them in a file to where they stand in memory, by their physical addresses.
     fn put(self, file: &[u8], image: &mut [u8])
         requires faultless { first_fault (length file.now) (left self) ≡ None }

@@ -23,4 +23,5 @@ loop-segment-preserved c =
       room = omega (arith, room, (image_size-parts s rest).1);
       bytes = λ x h.
           let before = rw c.in-Some.ensures.steps at c.loop-segment.invariant.bytes x (omega arith) in
-          rw (c.put.ensures x h) (byte_at-first c.args.file.now s rest (slice_index c.loop-segment.image x) x apart.0 ∙ before) }
+          rw (c.put.ensures x h) (byte_at-first c.args.file.now s rest (slice_index c.loop-segment.image x) x apart.0 ∙ before);
+    }

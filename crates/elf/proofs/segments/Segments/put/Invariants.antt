@@ -11,4 +11,5 @@ invariant-loop-segment l = record {
   faultless : first_fault (length l.file) (left l.segment-iterator) ≡ None;
   apart : any_overlap (left l.segment-iterator) ≡ false;
   room : image_size (left l.segment-iterator) ≤ length l.image;
-  bytes : (x : ℕ) → x < length l.image → byte_at l.file (left l.segment-iterator) (slice_index l.image x) x ≡ byte_at l.file (left l.fn.self) (slice_index l.initial.image x) x }
+  bytes : (x : ℕ) → x < length l.image → byte_at l.file (left l.segment-iterator) (slice_index l.image x) x ≡ byte_at l.file (left l.fn.self) (slice_index l.initial.image x) x;
+}

@@ -2,7 +2,7 @@
 use Rattle.std.proofs.Common.{◌≡◌}
 use Rattle.elf.specs.Segments.{first_fault}
 use Rattle.elf.specs.Tables.{left}
-use Rattle.elf.proofs.segments.Segments.fault.Given as goal
+use Rattle.elf.proofs.segments.Segments.check.Given as goal
 
 abbrev pub invariant-loop-segment : goal.invariant-loop-segment
 invariant-loop-segment l =

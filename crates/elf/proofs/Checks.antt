@@ -3,7 +3,7 @@ use Rattle.std.proofs.Common.{◌≡◌, ◌≤◌, ℕ, ◌<◌, ◌==◌, fals
 use Rattle.std.specs.Option.{option_or}
 use Rattle.std.proofs.lemmas.Bool.{eqb-false}
 use Rattle.elf.specs.Headers.{kind_fault, table_fault}
-use Rattle.elf.specs.Segments.{first_fault, segments_fault, any_overlap, image_size, memory_size}
+use Rattle.elf.specs.Images.{first_fault, segments_fault, any_overlap, image_size, memory_size}
 use Rattle.elf.specs.Programs.{loaded_segments, fault}
 use Rattle.elf.specs.declared.fault.Fault.TheVariants.{Overlapping, NothingToLoad}
 use Rattle.elf.proofs.Faultless.{none_parts, passed}

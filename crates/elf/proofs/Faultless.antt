@@ -2,7 +2,8 @@
 use Rattle.std.proofs.Common.{◌≡◌, ℕ, ◌+◌, ◌<◌, ◌≤◌, ◌&&◌, Bool, true, false, cond, List, ◌∷◌, Some, None, Option, refl, ltb}
 use Rattle.std.specs.Option.{option_or}
 use Rattle.std.proofs.lemmas.Bool.{ltb-false, lt-ltb}
-use Rattle.elf.specs.Segments.{segment_fault, first_fault}
+use Rattle.elf.specs.Segments.{segment_fault}
+use Rattle.elf.specs.Images.{first_fault}
 use Rattle.elf.specs.declared.segment.Segment.{Segment}
 
 -- neither of two gives a fault

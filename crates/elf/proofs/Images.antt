@@ -2,7 +2,8 @@
 use Rattle.std.proofs.Common.{◌≡◌, ℕ, ◌≤◌, true, false, cond, List, [], ◌∷◌, fold, max, refl, inl, inr, arith, rules, tests}
 use Rattle.std.specs.List.{list_any}
 use Rattle.std.proofs.lemmas.Bool.{both_ways, cases_Bool, or_parts, false_from_ne_true}
-use Rattle.elf.specs.Segments.{overlap, file_end, image_size, has, stored, byte_at}
+use Rattle.elf.specs.Segments.{overlap, file_end, has, stored}
+use Rattle.elf.specs.Images.{image_size, byte_at}
 use Rattle.elf.specs.declared.segment.Segment.{Segment}
 
 -- two segments that have one address overlap

@@ -1,7 +1,8 @@
 -- How large the image and the memory of segments without a fault are.
 use Rattle.std.proofs.Common.{◌≡◌, ℕ, ◌+◌, ◌≤◌, List, [], ◌∷◌, None, fold, max, arith, eqb}
 use Rattle.std.proofs.lemmas.Bool.{cond_both}
-use Rattle.elf.specs.Segments.{first_fault, file_end, memory_end, image_size, memory_size}
+use Rattle.elf.specs.Segments.{file_end, memory_end}
+use Rattle.elf.specs.Images.{first_fault, image_size, memory_size}
 use Rattle.elf.specs.declared.segment.Segment.{Segment}
 use Rattle.elf.proofs.Faultless.{IsSound, sound, faultless_parts}
 

@@ -1,5 +1,6 @@
 pub mod Fields
 pub mod Headers
+pub mod Images
 pub mod Programs
 pub mod Segments
 pub mod Tables

@@ -2,7 +2,8 @@
 use Rattle.std.specs.Prelude.{◌≡◌, ℕ, ◌<◌, ◌≤◌, List, length, None, Some, Ok, Err, Option, Result, vec_items}
 use Rattle.std.specs.Option.{option_or}
 use Rattle.elf.specs.Headers.{e_entry, headers, kind_fault, table_fault}
-use Rattle.elf.specs.Segments.{segments, segments_fault, memory_size, IsImage}
+use Rattle.elf.specs.Segments.{segments}
+use Rattle.elf.specs.Images.{segments_fault, memory_size, IsImage}
 use Rattle.elf.specs.Tables.{left}
 use Rattle.elf.specs.declared.segment.Segment.{Segment}
 use Rattle.elf.specs.declared.segments.Segments.{Segments}

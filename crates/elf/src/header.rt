@@ -58,7 +58,7 @@ pub fn is_elf(file: &[u8]) -> bool
     file.starts_with(&MAGIC)
 }
 
-/// Refuses a file that is no 32-bit little-endian executable for RISC-V, by its first bytes and the fields of its header.
+/// Refuses a file that is no 32-bit little-endian executable for RISC-V, by what its header says.
 pub(crate) fn check_kind(file: &[u8]) -> Result<(), Fault>
     ensures { result_err result ≡ kind_fault file.now }
 {

@@ -11,9 +11,9 @@ use std::alloc::Global;
 /// What an executable loads.
 #[derive(PartialEq, Eq, Debug, Drop)]
 pub struct Program {
-    /// The bytes of all segments, from address 0 to the end of the last, each at its physical address, and zeros between.
+    /// The bytes of all segments at their physical addresses, from 0 to the end of the last, and zeros between.
     pub bytes: Vec<u8>,
-    /// Where the last byte ends that a segment has in memory, by its physical or its virtual address.
+    /// The end of the last byte that a segment has in memory, by its physical or its virtual address.
     pub memory_size: u32,
     /// The address of the first instruction.
     pub entry: u32,

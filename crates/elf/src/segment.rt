@@ -1,7 +1,8 @@
 //! A segment that is loaded.
-ghost use Rattle.std.specs.Prelude.{◌≡◌, ℕ, ◌+◌, ◌<◌, ◌≤◌, cond, length, slice_index, EachIndex};
+ghost use Rattle.std.specs.Prelude.{◌≡◌, ◌≤◌, [], ◌∷◌, None, length};
 ghost use Rattle.std.specs.Result.{result_err};
-ghost use Rattle.elf.specs.Segments.{loaded, segment_fault, file_end, memory_end, overlap, has, stored};
+ghost use Rattle.elf.specs.Segments.{loaded, segment_fault, file_end, memory_end, overlap};
+ghost use Rattle.elf.specs.Images.{Put};
 
 use crate::fault::Fault;
 use crate::field::word;
@@ -75,7 +76,7 @@ impl Segment {
         Ok(())
     }
 
-    /// Where its bytes in the file end, by its physical address; 0 where it has none.
+    /// Where its bytes in the file end once they are loaded, at its physical address; 0 where it has none.
     pub fn file_end(&self) -> usize
         ensures { result ≡ file_end self.now }
     {
@@ -94,20 +95,19 @@ impl Segment {
         start as usize + self.memory_size as usize
     }
 
-    /// Whether bytes of it and of another in the file have the same physical address.
+    /// Whether bytes of it and of another are loaded at one address.
     pub fn overlaps(&self, other: &Segment) -> bool
         ensures { result ≡ overlap self.now other.now }
     {
-        self.file_size > 0
-            && other.file_size > 0
-            && (self.physical_address as usize) < other.file_end()
+        (self.physical_address as usize) < other.file_end()
             && (other.physical_address as usize) < self.file_end()
     }
-    /// Copies its bytes in the file to where they stand in memory, by its physical address.
+
+    /// Copies its bytes in the file to where they are loaded.
     pub fn put(&self, file: &[u8], image: &mut [u8])
-        requires in_file { 0 < self.now.file_size → self.now.offset + self.now.file_size ≤ length file.now }
-        requires in_image { file_end self.now ≤ length image.old }
-        ensures { EachIndex image.new (λ x. slice_index image.new x ≡ cond (has self.now x) (stored file.now self.now x) (slice_index image.old x)) }
+        requires faultless { segment_fault (length file.now) self.now ≡ None }
+        requires room { file_end self.now ≤ length image.old }
+        ensures { Put file.now (self.now ∷ []) image.old image.new }
     {
         if self.file_size == 0 {
             return;

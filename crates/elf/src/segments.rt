@@ -1,10 +1,12 @@
 //! The segments of a table of program headers.
 ghost use Rattle.std.specs.Iterator.{YieldsFirst, item_count};
-ghost use Rattle.std.specs.Prelude.{◌≡◌, ◌≤◌, false, None, length, slice_index, EachIndex, IfOk};
+ghost use Rattle.std.specs.Prelude.{◌≡◌, ◌≤◌, false, None, length, IfOk};
 ghost use Rattle.std.specs.List.{list_any};
 ghost use Rattle.std.specs.Result.{result_err};
 ghost use Rattle.elf.specs.Tables.{left};
-ghost use Rattle.elf.specs.Segments.{overlap, first_fault, segments_fault, any_overlap, image_size, memory_size, byte_at, IsImage};
+ghost use Rattle.elf.specs.Segments.{overlap};
+ghost use Rattle.elf.specs.Images.{first_fault, any_overlap, image_size, memory_size};
+ghost use Rattle.elf.specs.Images.{segments_fault, Put, IsImage};
 
 use crate::fault::Fault;
 use crate::segment::{PROGRAM_HEADER_SIZE, Segment};
@@ -74,7 +76,8 @@ impl<'a> Segments<'a> {
     {
         self.fold(0, |end, segment| end.max(segment.memory_end()))
     }
-    /// Refuses segments of which one has a fault by itself, or two overlap, or none has bytes, in a file of so many bytes.
+
+    /// Refuses segments of which one has a fault, two overlap or none has bytes, in a file of so many bytes.
     pub fn check(self, size: usize) -> Result<(), Fault>
         ensures { result_err result ≡ segments_fault size (left self.entry) }
     {
@@ -90,19 +93,19 @@ impl<'a> Segments<'a> {
         Ok(())
     }
 
-    /// Copies the bytes of all of them in a file to where they stand in memory, by their physical addresses.
+    /// Copies the bytes of all of them in a file to where they are loaded.
     fn put(self, file: &[u8], image: &mut [u8])
         requires faultless { first_fault (length file.now) (left self) ≡ None }
         requires apart { any_overlap (left self) ≡ false }
         requires room { image_size (left self) ≤ length image.old }
-        ensures { EachIndex image.new (λ x. slice_index image.new x ≡ byte_at file.now (left self.entry) (slice_index image.old x) x) }
+        ensures { Put file.now (left self.entry) image.old image.new }
     {
         for segment in self {
             segment.put(file, image);
         }
     }
 
-    /// The bytes that they have in a file, each at its physical address, and zeros between them.
+    /// The bytes of all of them in a file, where they are loaded, and zeros between them.
     pub fn image(self, heap: Global, file: &[u8]) -> Result<Vec<u8>, AllocError>
         requires faultless { first_fault (length file.now) (left self) ≡ None }
         requires apart { any_overlap (left self) ≡ false }

@@ -1,6 +1,6 @@
 -- The segments of a file without a fault end by 65536.
 use Rattle.std.proofs.Common.{◌≡◌, ◌∙◌, length, arith, ap}
-use Rattle.elf.specs.Segments.{image_size, memory_size}
+use Rattle.elf.specs.Images.{image_size, memory_size}
 use Rattle.elf.specs.Programs.{loaded_segments}
 use Rattle.elf.proofs.Checks.{faultless}
 use Rattle.elf.proofs.program.read.Goals as goal

@@ -1,6 +1,6 @@
 -- No segment so far has a fault, so the first fault is that of those that are left.
 use Rattle.std.proofs.Common.{◌≡◌}
-use Rattle.elf.specs.Segments.{first_fault}
+use Rattle.elf.specs.Images.{first_fault}
 use Rattle.elf.specs.Tables.{left}
 use Rattle.elf.proofs.segments.Segments.check.Given as goal
 

@@ -1,6 +1,6 @@
 -- No segment so far overlaps one behind it, so two overlap where two of those that are left do.
 use Rattle.std.proofs.Common.{◌≡◌}
-use Rattle.elf.specs.Segments.{any_overlap}
+use Rattle.elf.specs.Images.{any_overlap}
 use Rattle.elf.specs.Tables.{left}
 use Rattle.elf.proofs.segments.Segments.overlap.Given as goal
 

@@ -2,7 +2,8 @@
 use Rattle.std.proofs.Common.{◌∙◌, arith, length, slice_index}
 use Rattle.std.specs.List.{list_any}
 use Rattle.std.proofs.lemmas.Bool.{or_parts}
-use Rattle.elf.specs.Segments.{overlap, any_overlap}
+use Rattle.elf.specs.Segments.{overlap}
+use Rattle.elf.specs.Images.{any_overlap}
 use Rattle.elf.specs.Tables.{left}
 use Rattle.elf.proofs.Faultless.{faultless_parts}
 use Rattle.elf.proofs.Images.{byte_at-first, image_size-parts}

@@ -1,6 +1,6 @@
 -- The segments that are left have no fault, overlap nowhere and end within the image. With their bytes put too, it is the image with those of all.
 use Rattle.std.proofs.Common.{◌≡◌, ℕ, ◌<◌, ◌≤◌, false, None, length, slice_index}
-use Rattle.elf.specs.Segments.{first_fault, any_overlap, image_size, byte_at}
+use Rattle.elf.specs.Images.{first_fault, any_overlap, image_size, byte_at}
 use Rattle.elf.specs.Tables.{left}
 use Rattle.elf.proofs.segments.Segments.put.Given as goal
 

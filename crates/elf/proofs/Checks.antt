@@ -5,6 +5,7 @@ use Rattle.std.proofs.lemmas.Bool.{eqb-false}
 use Rattle.elf.specs.Headers.{kind_fault, table_fault}
 use Rattle.elf.specs.Images.{first_fault, segments_fault, any_overlap, image_size, memory_size}
 use Rattle.elf.specs.Programs.{loaded_segments, fault}
+use Rattle.elf.specs.declared.segment.Segment.{Segment}
 use Rattle.elf.specs.declared.fault.Fault.TheVariants.{Overlapping, NothingToLoad}
 use Rattle.elf.proofs.Faultless.{none_parts, passed}
 use Rattle.elf.proofs.Sizes.{memory_small, image_within}
@@ -30,3 +31,9 @@ faultless file e =
       within = image_within (length file) (loaded_segments file) parts.0;
       small = memory_small (length file) (loaded_segments file) parts.0;
     }
+
+pub memory_of : (file : List ℕ) (ss : List Segment) → ss ≡ loaded_segments file → fault file ≡ None → memory_size ss ≤ 65536
+memory_of file ss same e = rw same (faultless file e).small
+
+pub image_of : (file : List ℕ) (ss : List Segment) → ss ≡ loaded_segments file → fault file ≡ None → (0 < image_size ss) × (image_size ss ≤ memory_size ss)
+image_of file ss same e = rw same ((faultless file e).some, (faultless file e).within)

@@ -39,7 +39,8 @@ byte_at file (s ∷ rest) d x = cond (has s x) (stored file s x) (byte_at file r
 
 -- an image after their bytes were put into it
 abbrev pub Put : List ℕ → List Segment → List ℕ → List ℕ → Type 0
-Put file ss old new = EachIndex new (λ x. slice_index new x ≡ byte_at file ss (slice_index old x) x)
+Put file ss old new =
+    EachIndex new (λ x. slice_index new x ≡ byte_at file ss (slice_index old x) x)
 
 -- the image of segments: their bytes, and zeros between them
 pub record IsImage (file : List ℕ) (ss : List Segment) (image : List ℕ) : Type 0 where

@@ -18,7 +18,10 @@ loaded_segments file = segments (headers file)
 
 -- the first fault that a file has
 abbrev pub fault : List ℕ → Option Fault
-fault file = option_or (kind_fault file) (option_or (table_fault file) (segments_fault (length file) (loaded_segments file)))
+fault file =
+    option_or (kind_fault file)
+    (option_or (table_fault file)
+    (segments_fault (length file) (loaded_segments file)))
 
 -- the segments that are loaded, of a file without a fault; or its first fault
 abbrev pub Checked : List ℕ → Result Segments Fault → Type 0

@@ -95,6 +95,7 @@ pub(crate) fn entry(file: &[u8]) -> u32
 }
 
 /// The segments of a file's program headers. Refused where these do not stand within the file.
+#[tactic(auto, using(crate::proofs::Chunks::chunks_in_range))]
 pub(crate) fn segments(file: &[u8]) -> Result<Segments<'_>, Fault>
     requires { 52 ≤ length file.now }
     ensures { TableRead file.now result }

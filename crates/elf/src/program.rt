@@ -30,6 +30,7 @@ fn checked(file: &[u8]) -> Result<Segments<'_>, Fault>
 }
 
 /// What a file loads, or its first fault.
+#[tactic(auto, using(crate::proofs::Checks::memory_of, crate::proofs::Checks::image_of))]
 pub fn read(heap: Global, file: &[u8]) -> Result<Program, ReadError>
     ensures reads { Reads file.now result }
     ensures small { IfOk result IsSmall }

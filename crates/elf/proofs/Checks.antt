@@ -3,11 +3,13 @@ use Rattle.std.proofs.Common.{◌≡◌, ◌≤◌, ℕ, ◌<◌, ◌==◌, fals
 use Rattle.std.specs.Option.{option_or}
 use Rattle.std.proofs.lemmas.Bool.{eqb-false}
 use Rattle.elf.specs.Headers.{kind_fault, table_fault}
-use Rattle.elf.specs.Images.{first_fault, segments_fault, any_overlap, image_size, memory_size}
+use Rattle.elf.specs.Images.{first_fault, segments_fault, any_overlap, image_size, memory_size, IsImage}
 use Rattle.elf.specs.Programs.{loaded_segments, fault}
 use Rattle.elf.specs.declared.segment.Segment.{Segment}
 use Rattle.elf.specs.declared.fault.Fault.TheVariants.{Overlapping, NothingToLoad}
 use Rattle.elf.proofs.Faultless.{none_parts, passed}
+use Rattle.elf.specs.Places.{Stands}
+use Rattle.elf.proofs.Places.{stands}
 use Rattle.elf.proofs.Sizes.{memory_small, image_within}
 
 pub record IsFaultless (file : List ℕ) : Type 0 where
@@ -37,3 +39,6 @@ memory_of file ss same e = rw same (faultless file e).small
 
 pub image_of : (file : List ℕ) (ss : List Segment) → ss ≡ loaded_segments file → fault file ≡ None → (0 < image_size ss) × (image_size ss ≤ memory_size ss)
 image_of file ss same e = rw same ((faultless file e).some, (faultless file e).within)
+
+pub stands_of : (file image : List ℕ) → fault file ≡ None → IsImage file (loaded_segments file) image → Stands file image
+stands_of file image e made = stands file image (faultless file e).apart made

@@ -7,7 +7,7 @@ use Rattle.elf.specs.Images.{image_size, byte_at}
 use Rattle.elf.specs.declared.segment.Segment.{Segment}
 
 -- two segments that have one address overlap
-overlap_where_both : (s t : Segment) (x : ℕ) → has s x ≡ true → has t x ≡ true → overlap s t ≡ true
+pub overlap_where_both : (s t : Segment) (x : ℕ) → has s x ≡ true → has t x ≡ true → overlap s t ≡ true
 overlap_where_both s t x h k = search (rules, tests)
 
 -- no byte of a segment is written over by those that it does not overlap

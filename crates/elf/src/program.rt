@@ -1,5 +1,6 @@
 //! What an executable loads.
 ghost use Rattle.std.specs.Prelude.{IfOk};
+ghost use Rattle.elf.specs.Places.{Stands};
 ghost use Rattle.elf.specs.Programs.{Checked, Reads, IsSmall};
 
 use crate::error::ReadError;
@@ -30,9 +31,10 @@ fn checked(file: &[u8]) -> Result<Segments<'_>, Fault>
 }
 
 /// What a file loads, or its first fault.
-#[tactic(auto, using(crate::proofs::Checks::memory_of, crate::proofs::Checks::image_of))]
+#[tactic(auto, using(crate::proofs::Checks::memory_of, crate::proofs::Checks::image_of, crate::proofs::Checks::stands_of))]
 pub fn read(heap: Global, file: &[u8]) -> Result<Program, ReadError>
     ensures reads { Reads file.now result }
+    ensures stands { IfOk result (λ p. Stands file.now p.bytes.items) }
     ensures small { IfOk result IsSmall }
 {
     let segments = checked(file)?;

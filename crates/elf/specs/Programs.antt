@@ -42,7 +42,7 @@ Reads file (Err (Faulty why)) = fault file ≡ Some why
 Reads file (Err (OutOfMemory error)) = fault file ≡ None
 
 -- There are bytes, the memory has room for them, and it is no larger than 65536.
-pub record IsSmall (program : Program) : Type 0 where
+pub record FitsMemory (program : Program) : Type 0 where
   pub some : 0 < length (vec_items program.bytes)
   pub within : length (vec_items program.bytes) ≤ program.memory_size
   pub small : program.memory_size ≤ 65536

@@ -13,7 +13,7 @@ use crate::segments::Segments;
 const MAGIC: [u8; 4] = *b"\x7fELF";
 
 /// How long the header is.
-const SIZE: usize = 52;
+const HEADER_SIZE: usize = 52;
 
 // Where the fields of the header stand in it.
 const EI_CLASS: usize = 4;
@@ -65,7 +65,7 @@ pub(crate) fn check_kind(file: &[u8]) -> Result<(), Fault>
     if !is_elf(file) {
         return Err(Fault::NotElf);
     }
-    if file.len() < SIZE {
+    if file.len() < HEADER_SIZE {
         return Err(Fault::TruncatedHeader);
     }
     if file[EI_CLASS] != ELFCLASS32 {

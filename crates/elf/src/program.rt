@@ -1,7 +1,7 @@
 //! What an executable loads.
 ghost use Rattle.std.specs.Prelude.{IfOk};
 ghost use Rattle.elf.specs.Places.{Stands};
-ghost use Rattle.elf.specs.Programs.{Checked, Reads, IsSmall};
+ghost use Rattle.elf.specs.Programs.{Checked, Reads, FitsMemory};
 
 use crate::error::ReadError;
 use crate::fault::Fault;
@@ -35,7 +35,7 @@ fn checked(file: &[u8]) -> Result<Segments<'_>, Fault>
 pub fn read(heap: Global, file: &[u8]) -> Result<Program, ReadError>
     ensures reads { Reads file.now result }
     ensures stands { IfOk result (λ p. Stands file.now p.bytes.items) }
-    ensures small { IfOk result IsSmall }
+    ensures fits { IfOk result FitsMemory }
 {
     let segments = checked(file)?;
     Ok(Program {

@@ -215,6 +215,27 @@ def field_of(file, number, field):
     return struct.unpack_from("<I", file, header(number, field))[0]
 
 
+# The faults, by their numbers from 1 on.
+FAULTS = [
+    "the file is not an ELF file",
+    "the ELF file ends within its header",
+    "the ELF file is not of 32 bits",
+    "the ELF file is not little-endian",
+    "the ELF file is not of version 1",
+    "the ELF file is not for RISC-V",
+    "the ELF file is not an executable, but relocatable, shared or of another type",
+    "the ELF file has program headers of another size than 32 bytes",
+    "the ELF file has program headers that lie outside of it",
+    "the ELF file has a segment whose bytes lie outside of it",
+    "the ELF file has a segment of more bytes in the file than in memory",
+    "the ELF file has a segment that ends beyond 65536 by its physical address",
+    "the ELF file has a segment that ends beyond 65536 by its virtual address",
+    "the ELF file has segments that overlap by their physical addresses",
+    "the ELF file has no segment with bytes to load",
+]
+NUMBERS = {text: number for number, text in enumerate(FAULTS, 1)}
+
+
 def loaded_files(bench):
     """Files that are loaded: name, bytes, and whether objcopy has to agree."""
     yield "one", bench.linked(CODE + DATA, ONE), True
@@ -333,7 +354,8 @@ def main():
             said.append(f"{name}: {account}")
         for name, file, why in refused_files(bench):
             given.append(f"{name} {file.hex()}")
-            said.append(f"{name}: {why}")
+            raw = "" if file.startswith(b"\x7fELF") else "raw "
+            said.append(f"{name}: {raw}fault {NUMBERS[why]}, {why}")
     for name, lines in (("stdin", given), ("stdout", said)):
         with open(os.path.join(ROOT, "crates", "elf_trials", name), "w", encoding="ascii") as out:
             out.write("".join(line + "\n" for line in lines))

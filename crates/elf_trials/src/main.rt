@@ -1,6 +1,8 @@
 //! Reads ELF files from standard input, a line for each, and prints what each loads or why it is refused.
 #![tactic(auto)]
 
+use elf::error::ReadError;
+use elf::is_elf;
 use elf::program::{Program, read};
 use std::alloc::{AllocError, Global};
 use std::fmt::Write;
@@ -26,10 +28,18 @@ fn loaded_text(heap: Global, program: &Program) -> Result<String, AllocError> {
     Ok(text)
 }
 
-/// What is printed of a file.
+/// What is printed of a file: what it loads, or its fault with its number; `raw` stands before it where a file is no ELF file.
 fn account_of(heap: Global, file: &[u8]) -> Result<String, AllocError> {
+    let kind = if is_elf(file) { "" } else { "raw " };
     match read(heap, file) {
-        Ok(program) => loaded_text(heap, &program),
+        Ok(program) => {
+            let text = loaded_text(heap, &program)?;
+            format!(in heap; "{kind}{text}")
+        }
+        Err(ReadError::Faulty(fault)) => {
+            let number = fault.number();
+            format!(in heap; "{kind}fault {number}, {fault}")
+        }
         Err(why) => why.to_string(heap),
     }
 }

@@ -283,6 +283,7 @@ def refused_files(bench):
 
     big = bench.linked(CODE + DATA, ONE, emulation="elf32briscv", assembler=("-march=rv32i", "-mabi=ilp32", "-mbig-endian"))
     yield "big-endian", big, "the ELF file is not little-endian"
+    yield "no-encoding", changed(one, (ENCODING, 1, 0)), "the ELF file is not little-endian"
 
     version = "the ELF file is not of version 1"
     yield "ident-of-version-2", changed(one, (VERSION, 1, 2)), version

@@ -1,6 +1,6 @@
 -- The lines of a report. Assumes nothing.
 use Rattle.std.specs.Prelude.{ℕ, ◌+◌, List, [], ◌∷◌, ◌++◌, Some, None, codes, decimal, Option}
-use Rattle.listing.specs.Texts.{stop_text}
+use Rattle.seqtable.specs.Records.{stop_text}
 use Rattle.pipeline.specs.declared.machine.Totals.{Totals}
 use Rattle.sequential.specs.declared.record.Stop.{Stop}
 use Rattle.setup.specs.Predictors.{predictor_text}
@@ -13,7 +13,7 @@ use Rattle.report.specs.declared.lines.Outcomes.{Outcomes}
 abbrev pub setup_lines : Setup → Longest → List ℕ
 setup_lines s w =
     codes "predictor " ++ (predictor_text s.predictor ++ (10 ∷ codes "instructions " ++ (stack_text s.instructions ++ (codes " longest " ++ (decimal w.instructions
-    ++ (10 ∷ codes "data " ++ (stack_text s.«data» ++ (codes " longest " ++ (decimal w.«data» ++ 10 ∷ [])))))))))
+    ++ (10 ∷ codes "data " ++ (stack_text s.data_memory ++ (codes " longest " ++ (decimal w.data_memory ++ 10 ∷ [])))))))))
 
 -- the bounds that hold of every run
 abbrev pub bounds_line : ℕ → ℕ → List ℕ
@@ -34,7 +34,7 @@ last_line None = codes "limit" ++ 10 ∷ []
 
 -- the longest waits of both memories together, and so many clocks more
 abbrev pub within : Longest → ℕ → ℕ
-within w more = w.instructions + w.«data» + more
+within w more = w.instructions + w.data_memory + more
 
 -- all of them
 unfoldable pub report_text : Setup → Longest → Outcomes → List ℕ

@@ -2,8 +2,8 @@
 ghost use Rattle.std.specs.Prelude.{◌≡◌, ◌+◌, IfOk, Some, string_bytes};
 ghost use Rattle.report.specs.Lines.{setup_lines, bounds_line, totals_line, gap_line, within, report_text};
 
-use listing::records::EndText;
 use pipeline::machine::Totals;
+use seqtable::records::EndText;
 use sequential::record::Stop;
 use setup::choice::Setup;
 use std::alloc::{AllocError, Global};
@@ -13,15 +13,15 @@ use std::fmt;
 #[derive(Clone, Copy)]
 pub struct Longest {
     pub instructions: u32,
-    pub data: u32,
+    pub data_memory: u32,
 }
 
 impl Longest {
     /// The longest waits of both together, and so many clocks more.
     fn within(self, more: u32) -> u64
-        ensures { result ≡ self.instructions + self.«data» + more }
+        ensures { result ≡ self.instructions + self.data_memory + more }
     {
-        u64::from(self.instructions) + u64::from(self.data) + u64::from(more)
+        u64::from(self.instructions) + u64::from(self.data_memory) + u64::from(more)
     }
 }
 
@@ -46,7 +46,11 @@ impl fmt::Display for SetupLines {
         write!(
             f,
             "predictor {}\ninstructions {} longest {}\ndata {} longest {}\n",
-            setup.predictor, setup.instructions, longest.instructions, setup.data, longest.data
+            setup.predictor,
+            setup.instructions,
+            longest.instructions,
+            setup.data_memory,
+            longest.data_memory
         )
     }
 }

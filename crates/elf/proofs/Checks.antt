@@ -1,5 +1,5 @@
 -- What holds of the segments of a file without a fault.
-use Rattle.std.proofs.Common.{◌≡◌, ◌≤◌, ℕ, ◌<◌, ◌==◌, false, cond, List, length, None, Some, arith}
+use Rattle.std.proofs.Common.{◌≡◌, ◌≤◌, ℕ, ◌<◌, ◌==◌, false, if◌then◌else◌, List, length, None, Some, arith}
 use Rattle.std.specs.Option.{option_or}
 use Rattle.std.proofs.lemmas.Bool.{eqb-false}
 use Rattle.elf.specs.Headers.{kind_fault, table_fault}
@@ -23,8 +23,8 @@ pub faultless : (file : List ℕ) → fault file ≡ None → IsFaultless file
 faultless file e =
     let header = none_parts (kind_fault file) (option_or (table_fault file) (segments_fault (length file) (loaded_segments file))) e in
     let table = none_parts (table_fault file) (segments_fault (length file) (loaded_segments file)) header.1 in
-    let parts = none_parts (first_fault (length file) (loaded_segments file)) (cond (any_overlap (loaded_segments file)) (Some Overlapping) (cond (image_size (loaded_segments file) == 0) (Some NothingToLoad) None)) table.1 in
-    let apart = passed (any_overlap (loaded_segments file)) Overlapping (cond (image_size (loaded_segments file) == 0) (Some NothingToLoad) None) parts.1 in
+    let parts = none_parts (first_fault (length file) (loaded_segments file)) (if any_overlap (loaded_segments file) then Some Overlapping else if image_size (loaded_segments file) == 0 then Some NothingToLoad else None) table.1 in
+    let apart = passed (any_overlap (loaded_segments file)) Overlapping (if image_size (loaded_segments file) == 0 then Some NothingToLoad else None) parts.1 in
     let some = passed (image_size (loaded_segments file) == 0) NothingToLoad None apart.1 in
     record {
       each = parts.0;
@@ -34,11 +34,17 @@ faultless file e =
       small = memory_small (length file) (loaded_segments file) parts.0;
     }
 
-pub memory_of : (file : List ℕ) (ss : List Segment) → ss ≡ loaded_segments file → fault file ≡ None → memory_size ss ≤ 65536
+-- how large the memory of a faultless file's segments is
+pub memory_of : (file : List ℕ) (ss : List Segment) → ss ≡ loaded_segments file → fault file ≡ None
+    → memory_size ss ≤ 65536
 memory_of file ss same e = rw same (faultless file e).small
 
-pub image_of : (file : List ℕ) (ss : List Segment) → ss ≡ loaded_segments file → fault file ≡ None → (0 < image_size ss) × (image_size ss ≤ memory_size ss)
+-- how large their image is
+pub image_of : (file : List ℕ) (ss : List Segment) → ss ≡ loaded_segments file → fault file ≡ None
+    → (0 < image_size ss) × (image_size ss ≤ memory_size ss)
 image_of file ss same e = rw same ((faultless file e).some, (faultless file e).within)
 
-pub stands_of : (file image : List ℕ) → fault file ≡ None → IsImage file (loaded_segments file) image → Stands file image
+-- where their bytes stand in it
+pub stands_of : (file image : List ℕ) → fault file ≡ None → IsImage file (loaded_segments file) image
+    → Stands file image
 stands_of file image e made = stands file image (faultless file e).apart made

@@ -5,7 +5,8 @@ use Rattle.std.specs.List.{slice_range}
 use Rattle.std.proofs.lemmas.List.{take-take, drop-take, length-take, length-drop}
 
 -- no piece lies behind the first k * n elements
-first_chunks-take : {X : Type 0} (n k m : ℕ) (xs : List X) → m ≡ k * n → first_chunks n k (take m xs) ≡ first_chunks n k xs
+first_chunks-take : {X : Type 0} (n k m : ℕ) (xs : List X) → m ≡ k * n
+    → first_chunks n k (take m xs) ≡ first_chunks n k xs
 first_chunks-take n zero m xs e = refl
 first_chunks-take n (suc k) m xs e =
     let here : take n (take m xs) ≡ take n xs = take-take n m xs (omega arith) in
@@ -14,8 +15,9 @@ first_chunks-take n (suc k) m xs e =
     let behind : first_chunks n k (take (k * n) (drop n xs)) ≡ first_chunks n k (drop n xs) = first_chunks-take n k (k * n) (drop n xs) refl in
     cc
 
--- a range of a file that holds n pieces is cut into just these
-pub chunks_in_range : (file : List ℕ) (start n : ℕ) → start + 32 * n ≤ length file → (slice_range file start (start + 32 * n) ≡ slice_range file start (start + 32 * n)) × (first_chunks 32 (length (slice_range file start (start + 32 * n)) / 32) (slice_range file start (start + 32 * n)) ≡ first_chunks 32 n (drop start file))
+-- A range of a file that holds n pieces is cut into just these. The equation before it is there to show all its variables.
+pub chunks_in_range : (file : List ℕ) (start n : ℕ) → start + 32 * n ≤ length file
+    → (slice_range file start (start + 32 * n) ≡ slice_range file start (start + 32 * n)) × (first_chunks 32 (length (slice_range file start (start + 32 * n)) / 32) (slice_range file start (start + 32 * n)) ≡ first_chunks 32 n (drop start file))
 chunks_in_range file start n h =
     let size : length (slice_range file start (start + 32 * n)) ≡ n * 32 = simp (length-take, length-drop) (omega arith) in
     let count : length (slice_range file start (start + 32 * n)) / 32 ≡ n = omega (arith, size) in

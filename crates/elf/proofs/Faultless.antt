@@ -1,5 +1,5 @@
 -- What holds of segments that have no fault.
-use Rattle.std.proofs.Common.{◌≡◌, ℕ, ◌+◌, ◌<◌, ◌≤◌, ◌&&◌, Bool, true, false, cond, List, ◌∷◌, Some, None, Option, refl, ltb}
+use Rattle.std.proofs.Common.{◌≡◌, ℕ, ◌+◌, ◌<◌, ◌≤◌, ◌&&◌, Bool, true, false, if◌then◌else◌, List, ◌∷◌, Some, None, Option, refl, ltb}
 use Rattle.std.specs.Option.{option_or}
 use Rattle.std.proofs.lemmas.Bool.{ltb-false, lt-ltb}
 use Rattle.elf.specs.Segments.{segment_fault}
@@ -12,11 +12,12 @@ none_parts None p e = (refl, e)
 none_parts (Some x) p e = absurd cc
 
 -- a test that gives no fault
-pub passed : {A : Type 0} (b : Bool) (x : A) (o : Option A) → cond b (Some x) o ≡ None → (b ≡ false) × (o ≡ None)
+pub passed : {A : Type 0} (b : Bool) (x : A) (o : Option A) → (if b then Some x else o) ≡ None → (b ≡ false) × (o ≡ None)
 passed false x o e = (refl, e)
 passed true x o e = absurd cc
 
-pub faultless_parts : (size : ℕ) (s : Segment) (rest : List Segment) → first_fault size (s ∷ rest) ≡ None → (segment_fault size s ≡ None) × (first_fault size rest ≡ None)
+pub faultless_parts : (size : ℕ) (s : Segment) (rest : List Segment) → first_fault size (s ∷ rest) ≡ None
+    → (segment_fault size s ≡ None) × (first_fault size rest ≡ None)
 faultless_parts size s rest e = none_parts (segment_fault size s) (first_fault size rest) e
 
 -- a segment without a fault

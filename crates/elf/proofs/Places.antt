@@ -17,7 +17,8 @@ length-first_chunks : {X : Type 0} (n k : ℕ) (xs : List X) → length (first_c
 length-first_chunks n zero xs = refl
 length-first_chunks n (suc k) xs = ap (λ (j : ℕ). suc j) (length-first_chunks n k (drop n xs))
 
-get_or-first_chunks : (count : ℕ) (xs : List ℕ) (k at : ℕ) → k < count → at ≡ 32 * k → get_or (first_chunks 32 count xs) k [] ≡ take 32 (drop at xs)
+get_or-first_chunks : (count : ℕ) (xs : List ℕ) (k at : ℕ) → k < count → at ≡ 32 * k
+    → get_or (first_chunks 32 count xs) k [] ≡ take 32 (drop at xs)
 get_or-first_chunks zero xs k at h e = absurd (omega arith)
 get_or-first_chunks (suc count) xs zero at h e =
     let front : at ≡ 0 = omega arith in
@@ -47,14 +48,18 @@ has_own s i h =
     and_from (leb s.physical_address (s.physical_address + i)) (ltb (s.physical_address + i) (file_end s)) (le-leb _ _ (omega arith)) (lt-ltb _ _ (omega (arith, end)))
 
 -- the segments of one program header more
-segments-loaded : (header : List ℕ) (rest : List (List ℕ)) → is_loaded header ≡ true → segments (header ∷ rest) ≡ segment header ∷ segments rest
+segments-loaded : (header : List ℕ) (rest : List (List ℕ)) → is_loaded header ≡ true
+    → segments (header ∷ rest) ≡ segment header ∷ segments rest
 segments-loaded header rest l = rw l refl
 
-segments-passed : (header : List ℕ) (rest : List (List ℕ)) → is_loaded header ≡ false → segments (header ∷ rest) ≡ segments rest
+segments-passed : (header : List ℕ) (rest : List (List ℕ)) → is_loaded header ≡ false
+    → segments (header ∷ rest) ≡ segments rest
 segments-passed header rest l = rw l refl
 
 -- what holds of no segment does not hold of that of one program header
-none_of : (p : Segment → Bool) (hs : List (List ℕ)) (k : ℕ) → k < length hs → is_loaded (get_or hs k []) ≡ true → list_any p (segments hs) ≡ false → p (segment (get_or hs k [])) ≡ false
+none_of : (p : Segment → Bool) (hs : List (List ℕ)) (k : ℕ) → k < length hs
+    → is_loaded (get_or hs k []) ≡ true → list_any p (segments hs) ≡ false
+    → p (segment (get_or hs k [])) ≡ false
 none_of p [] k h l e = absurd (omega arith)
 none_of p (header ∷ rest) zero h l e =
     (or_parts (p (segment header)) (list_any p (segments rest)) (rw (segments-loaded header rest l) at e)).0
@@ -65,7 +70,10 @@ none_of p (header ∷ rest) (suc k) h l e =
     ]
 
 -- the byte at x is that of the one program header whose segment has it
-own_byte : (file : List ℕ) (hs : List (List ℕ)) (k d x : ℕ) → k < length hs → is_loaded (get_or hs k []) ≡ true → has (segment (get_or hs k [])) x ≡ true → any_overlap (segments hs) ≡ false → byte_at file (segments hs) d x ≡ stored file (segment (get_or hs k [])) x
+own_byte : (file : List ℕ) (hs : List (List ℕ)) (k d x : ℕ) → k < length hs
+    → is_loaded (get_or hs k []) ≡ true → has (segment (get_or hs k [])) x ≡ true
+    → any_overlap (segments hs) ≡ false
+    → byte_at file (segments hs) d x ≡ stored file (segment (get_or hs k [])) x
 own_byte file [] k d x h l m e = absurd (omega arith)
 own_byte file (header ∷ rest) zero d x h l m e =
     ap (λ (ss : List Segment). byte_at file ss d x) (segments-loaded header rest l) ∙ cond-true (has (segment header) x) (stored file (segment header) x) (byte_at file (segments rest) d x) m
@@ -81,7 +89,8 @@ own_byte file (header ∷ rest) (suc k) d x h l m e =
     ]
 
 -- where a segment's bytes end is not behind the end of the image
-own_end : (hs : List (List ℕ)) (k : ℕ) → k < length hs → is_loaded (get_or hs k []) ≡ true → file_end (segment (get_or hs k [])) ≤ image_size (segments hs)
+own_end : (hs : List (List ℕ)) (k : ℕ) → k < length hs → is_loaded (get_or hs k []) ≡ true
+    → file_end (segment (get_or hs k [])) ≤ image_size (segments hs)
 own_end [] k h l = absurd (omega arith)
 own_end (header ∷ rest) zero h l = rw (segments-loaded header rest l) (image_size-parts (segment header) (segments rest)).0
 own_end (header ∷ rest) (suc k) h l =
@@ -101,7 +110,9 @@ has_none header x h =
           and_right (leb s.physical_address x) (ltb x (file_end s)) (le-ltb x (file_end s) end)
     ]
 
-no_byte : (file : List ℕ) (hs : List (List ℕ)) (x : ℕ) → ((k : ℕ) → k < length hs → p_type (get_or hs k []) ≡ 1 → IsElsewhere (get_or hs k []) x) → byte_at file (segments hs) 0 x ≡ 0
+no_byte : (file : List ℕ) (hs : List (List ℕ)) (x : ℕ)
+    → ((k : ℕ) → k < length hs → p_type (get_or hs k []) ≡ 1 → IsElsewhere (get_or hs k []) x)
+    → byte_at file (segments hs) 0 x ≡ 0
 no_byte file [] x h = refl
 no_byte file (header ∷ rest) x h =
     let behind = no_byte file rest x (λ k l t. h (suc k) (omega arith) t) in
@@ -122,7 +133,10 @@ header_count : (file : List ℕ) → length (headers file) ≡ e_phnum file
 header_count file = length-first_chunks 32 (e_phnum file) (drop (e_phoff file) file)
 
 -- each byte of a program header's segment stands where it is loaded
-byte_stands : (file image : List ℕ) (hs : List (List ℕ)) (k i : ℕ) (header : List ℕ) → get_or hs k [] ≡ header → k < length hs → any_overlap (segments hs) ≡ false → IsImage file (segments hs) image → IsFilled header → i < p_filesz header → slice_index image (p_paddr header + i) ≡ byte file (p_offset header + i)
+byte_stands : (file image : List ℕ) (hs : List (List ℕ)) (k i : ℕ) (header : List ℕ)
+    → get_or hs k [] ≡ header → k < length hs → any_overlap (segments hs) ≡ false
+    → IsImage file (segments hs) image → IsFilled header → i < p_filesz header
+    → slice_index image (p_paddr header + i) ≡ byte file (p_offset header + i)
 byte_stands file image hs k i header same h apart made filled l =
     let s = segment header in
     let load : is_loaded (get_or hs k []) ≡ true = rw same (is_loaded_where_filled header filled) in
@@ -133,7 +147,8 @@ byte_stands file image hs k i header same h apart made filled l =
     let back : p_paddr header + i - p_paddr header ≡ i = omega arith in
     made.bytes_so (p_paddr header + i) inside ∙ (own ∙ ap (λ (n : ℕ). byte file (p_offset header + n)) back)
 
-zero_stands : (file image : List ℕ) (x : ℕ) → IsImage file (segments (headers file)) image → ((k : ℕ) → IsLoadable file k → IsElsewhere (program_header file k) x) → slice_index image x ≡ 0
+zero_stands : (file image : List ℕ) (x : ℕ) → IsImage file (segments (headers file)) image
+    → ((k : ℕ) → IsLoadable file k → IsElsewhere (program_header file k) x) → slice_index image x ≡ 0
 zero_stands file image x made h =
     elim (cases_lt x (length image)) [
       | inl inside ↦
@@ -144,7 +159,8 @@ zero_stands file image x made h =
       | inr behind ↦ get_or_past image x 0 behind
     ]
 
-pub stands : (file image : List ℕ) → any_overlap (segments (headers file)) ≡ false → IsImage file (segments (headers file)) image → Stands file image
+pub stands : (file image : List ℕ) → any_overlap (segments (headers file)) ≡ false
+    → IsImage file (segments (headers file)) image → Stands file image
 stands file image apart made = record {
   bytes_so = λ k i h l. byte_stands file image (headers file) k i (program_header file k) (header_by_number file k h.there) (omega (arith, header_count file, h.there)) apart made record { type_so = h.type_so; some = omega (arith, l) } l;
   zeros_so = λ x h. zero_stands file image x made h;

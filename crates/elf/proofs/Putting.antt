@@ -1,5 +1,5 @@
 -- The bytes of an image after a segment's bytes were put into it.
-use Rattle.std.proofs.Common.{◌≡◌, ◌≢◌, ℕ, ◌+◌, ◌-◌, ◌≤◌, ◌&&◌, true, false, cond, eqb, ltb, leb, inl, inr, List, length, take, drop, get_or, arith}
+use Rattle.std.proofs.Common.{◌≡◌, ◌≢◌, ℕ, ◌+◌, ◌-◌, ◌≤◌, ◌&&◌, true, false, if◌then◌else◌, eqb, ltb, leb, inl, inr, List, length, take, drop, get_or, arith}
 use borrow.Rule.Slice.PartMut.{put_mid}
 use Rattle.std.proofs.lemmas.Bool.{cases_lt, le-leb, lt-leb, lt-ltb, le-ltb, ne_eqb, cond-false}
 use Rattle.std.proofs.lemmas.List.{places}
@@ -7,7 +7,9 @@ use Rattle.elf.specs.Segments.{file_end, has, stored}
 use Rattle.elf.specs.declared.segment.Segment.{Segment}
 
 -- n bytes from one place of a file, put to another place of an image
-byte_in_put : (file image part : List ℕ) (from to n i : ℕ) → to + n ≤ length image → from + n ≤ length file → part ≡ take n (drop from file) → get_or (put_mid to n image part) i 0 ≡ cond (leb to i && ltb i (to + n)) (get_or file (from + (i - to)) 0) (get_or image i 0)
+byte_in_put : (file image part : List ℕ) (from to n i : ℕ) → to + n ≤ length image → from + n ≤ length file
+    → part ≡ take n (drop from file)
+    → get_or (put_mid to n image part) i 0 ≡ (if leb to i && ltb i (to + n) then get_or file (from + (i - to)) 0 else get_or image i 0)
 byte_in_put file image part from to n i h g e =
     elim (cases_lt i to) [
       | inl below ↦
@@ -26,7 +28,10 @@ byte_in_put file image part from to n i h g e =
     ]
 
 -- the bytes of a segment, with their sizes as ranges have them
-pub byte_after_put : (file image part : List ℕ) (s : Segment) (i : ℕ) → s.file_size ≢ 0 → file_end s ≤ length image → s.offset + s.file_size ≤ length file → part ≡ take (s.offset + s.file_size - s.offset) (drop s.offset file) → get_or (put_mid s.physical_address (s.physical_address + s.file_size - s.physical_address) image part) i 0 ≡ cond (has s i) (stored file s i) (get_or image i 0)
+pub byte_after_put : (file image part : List ℕ) (s : Segment) (i : ℕ) → s.file_size ≢ 0
+    → file_end s ≤ length image → s.offset + s.file_size ≤ length file
+    → part ≡ take (s.offset + s.file_size - s.offset) (drop s.offset file)
+    → get_or (put_mid s.physical_address (s.physical_address + s.file_size - s.physical_address) image part) i 0 ≡ (if has s i then stored file s i else get_or image i 0)
 byte_after_put file image part s i some room within e =
     let cut : s.offset + s.file_size - s.offset ≡ s.file_size = omega arith in
     let put : s.physical_address + s.file_size - s.physical_address ≡ s.file_size = omega arith in

@@ -13,14 +13,16 @@ file_end_within : (size : ℕ) (s : Segment) → IsSound size s → file_end s �
 file_end_within size s h =
     cond_both (eqb s.file_size 0) 0 (s.physical_address + s.file_size) (λ end. end ≤ memory_end s) (λ e. omega arith) (λ e. omega (arith, h.no_more))
 
-memory_small_from : (size : ℕ) (ss : List Segment) (n : ℕ) → first_fault size ss ≡ None → n ≤ 65536 → fold (λ end s. max end (memory_end s)) n ss ≤ 65536
+memory_small_from : (size : ℕ) (ss : List Segment) (n : ℕ) → first_fault size ss ≡ None → n ≤ 65536
+    → fold (λ end s. max end (memory_end s)) n ss ≤ 65536
 memory_small_from size [] n e h = h
 memory_small_from size (s ∷ rest) n e h =
     let parts = faultless_parts size s rest e in
     let small = memory_end_small size s (sound size s parts.0) in
     memory_small_from size rest (max n (memory_end s)) parts.1 (omega (arith, small))
 
-image_within_from : (size : ℕ) (ss : List Segment) (m n : ℕ) → first_fault size ss ≡ None → m ≤ n → fold (λ end s. max end (file_end s)) m ss ≤ fold (λ end s. max end (memory_end s)) n ss
+image_within_from : (size : ℕ) (ss : List Segment) (m n : ℕ) → first_fault size ss ≡ None → m ≤ n
+    → fold (λ end s. max end (file_end s)) m ss ≤ fold (λ end s. max end (memory_end s)) n ss
 image_within_from size [] m n e h = h
 image_within_from size (s ∷ rest) m n e h =
     let parts = faultless_parts size s rest e in

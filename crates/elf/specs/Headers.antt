@@ -1,5 +1,5 @@
 -- The header of a file. Assumes nothing.
-use Rattle.std.specs.Prelude.{◌≡◌, ℕ, ◌+◌, ◌*◌, not, ◌&&◌, cond, List, length, drop, Some, None, Ok, Err, Option, Result, ◌==◌, nat_lt}
+use Rattle.std.specs.Prelude.{◌≡◌, ℕ, ◌+◌, ◌*◌, not, ◌&&◌, if◌then◌else◌, List, length, drop, Some, None, Ok, Err, Option, Result, ◌==◌, nat_lt}
 use Rattle.std.specs.Simd.{first_chunks}
 use Rattle.elf.specs.Fields.{is_elf, byte, half, word}
 use Rattle.elf.specs.declared.fault.Fault.{Fault}
@@ -44,19 +44,21 @@ headers file = first_chunks 32 (e_phnum file) (drop (e_phoff file) file)
 -- what a file is not, by its first bytes and by the fields of its header
 abbrev pub kind_fault : List ℕ → Option Fault
 kind_fault file =
-    cond (not (is_elf file)) (Some NotElf)
-    (cond (nat_lt (length file) 52) (Some TruncatedHeader)
-    (cond (not (ei_class file == 1)) (Some Not32Bit)
-    (cond (not (ei_data file == 1)) (Some NotLittleEndian)
-    (cond (not (ei_version file == 1 && e_version file == 1)) (Some NotVersion1)
-    (cond (not (e_machine file == 243)) (Some NotRiscV)
-    (cond (not (e_type file == 2)) (Some NotExecutable) None))))))
+    if not (is_elf file) then Some NotElf
+    else if nat_lt (length file) 52 then Some TruncatedHeader
+    else if not (ei_class file == 1) then Some Not32Bit
+    else if not (ei_data file == 1) then Some NotLittleEndian
+    else if not (ei_version file == 1 && e_version file == 1) then Some NotVersion1
+    else if not (e_machine file == 243) then Some NotRiscV
+    else if not (e_type file == 2) then Some NotExecutable
+    else None
 
 -- what is wrong with where its program headers stand
 abbrev pub table_fault : List ℕ → Option Fault
 table_fault file =
-    cond (nat_lt 0 (e_phnum file) && not (e_phentsize file == 32)) (Some HeaderSize)
-    (cond (nat_lt (length file) (e_phoff file + 32 * e_phnum file)) (Some HeadersOutside) None)
+    if nat_lt 0 (e_phnum file) && not (e_phentsize file == 32) then Some HeaderSize
+    else if nat_lt (length file) (e_phoff file + 32 * e_phnum file) then Some HeadersOutside
+    else None
 
 -- the program headers, or what is wrong with where they stand
 abbrev pub TableRead : List ℕ → Result Segments Fault → Type 0

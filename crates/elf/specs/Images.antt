@@ -1,5 +1,5 @@
 -- What segments load together. Assumes nothing.
-use Rattle.std.specs.Prelude.{◌≡◌, ℕ, Bool, false, ◌||◌, cond, List, [], ◌∷◌, length, Some, None, Option, fold, max, ◌==◌, slice_index, EachIndex}
+use Rattle.std.specs.Prelude.{◌≡◌, ℕ, Bool, false, ◌||◌, if◌then◌else◌, List, [], ◌∷◌, length, Some, None, Option, fold, max, ◌==◌, slice_index, EachIndex}
 use Rattle.std.specs.List.{list_any}
 use Rattle.std.specs.Option.{option_or}
 use Rattle.elf.specs.Segments.{segment_fault, file_end, memory_end, has, stored, overlap}
@@ -29,13 +29,14 @@ memory_size ss = fold (λ end s. max end (memory_end s)) 0 ss
 abbrev pub segments_fault : ℕ → List Segment → Option Fault
 segments_fault size ss =
     option_or (first_fault size ss)
-    (cond (any_overlap ss) (Some Overlapping)
-    (cond (image_size ss == 0) (Some NothingToLoad) None))
+    (if any_overlap ss then Some Overlapping
+    else if image_size ss == 0 then Some NothingToLoad
+    else None)
 
 -- the byte at x: that of the segment that has one there, or d where none has
 abbrev pub byte_at : List ℕ → List Segment → ℕ → ℕ → ℕ
 byte_at file [] d x = d
-byte_at file (s ∷ rest) d x = cond (has s x) (stored file s x) (byte_at file rest d x)
+byte_at file (s ∷ rest) d x = if has s x then stored file s x else byte_at file rest d x
 
 -- an image after their bytes were put into it
 abbrev pub Put : List ℕ → List Segment → List ℕ → List ℕ → Type 0

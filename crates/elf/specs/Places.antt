@@ -21,7 +21,8 @@ IsElsewhere header x = (x < p_paddr header) ⊎ (p_paddr header + p_filesz heade
 pub record Stands (file image : List ℕ) : Type 0 where
   pub bytes_so :
       (k i : ℕ) → IsLoadable file k → i < p_filesz (program_header file k) →
-      slice_index image (p_paddr (program_header file k) + i) ≡ byte file (p_offset (program_header file k) + i)
+      slice_index image (p_paddr (program_header file k) + i) ≡
+      byte file (p_offset (program_header file k) + i)
   pub zeros_so :
       (x : ℕ) → ((k : ℕ) → IsLoadable file k → IsElsewhere (program_header file k) x) →
       slice_index image x ≡ 0

@@ -35,7 +35,7 @@ pub record Loads (file : List ℕ) (program : Program) : Type 0 where
   pub memory_so : program.memory_size ≡ memory_size (loaded_segments file)
   pub entry_so : program.entry ≡ e_entry file
 
--- The answer to a file: what it loads, or its first fault. There may be no memory only for one without a fault.
+-- The answer to a file: what it loads, or its first fault. Only without a fault may there be no memory.
 abbrev pub Reads : List ℕ → Result Program ReadError → Type 0
 Reads file (Ok program) = Loads file program
 Reads file (Err (Faulty why)) = fault file ≡ Some why

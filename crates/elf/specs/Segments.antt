@@ -1,5 +1,5 @@
 -- Segments, as program headers say them. Assumes nothing.
-use Rattle.std.specs.Prelude.{ℕ, ◌+◌, ◌-◌, Bool, ◌&&◌, not, cond, List, Some, None, Option, max, ◌==◌, nat_lt, nat_le}
+use Rattle.std.specs.Prelude.{ℕ, ◌+◌, ◌-◌, Bool, ◌&&◌, not, if◌then◌else◌, List, Some, None, Option, max, ◌==◌, nat_lt, nat_le}
 use Rattle.std.specs.List.{filter_map}
 use Rattle.elf.specs.Fields.{byte, word}
 use Rattle.elf.specs.declared.segment.Segment.{Segment}
@@ -40,7 +40,7 @@ segment header = record {
 }
 
 abbrev pub loaded : List ℕ → Option Segment
-loaded header = cond (is_loaded header) (Some (segment header)) None
+loaded header = if is_loaded header then Some (segment header) else None
 
 -- the segments that are loaded, of many program headers
 abbrev pub segments : List (List ℕ) → List Segment
@@ -49,14 +49,15 @@ segments headers = filter_map loaded headers
 -- the first fault that a segment has by itself, in a file of so many bytes
 abbrev pub segment_fault : ℕ → Segment → Option Fault
 segment_fault size s =
-    cond (nat_lt 0 s.file_size && nat_lt size (s.offset + s.file_size)) (Some SegmentOutside)
-    (cond (nat_lt s.memory_size s.file_size) (Some FileAboveMemory)
-    (cond (nat_lt 65536 (s.physical_address + s.memory_size)) (Some BeyondPhysical)
-    (cond (nat_lt 65536 (s.virtual_address + s.memory_size)) (Some BeyondVirtual) None)))
+    if nat_lt 0 s.file_size && nat_lt size (s.offset + s.file_size) then Some SegmentOutside
+    else if nat_lt s.memory_size s.file_size then Some FileAboveMemory
+    else if nat_lt 65536 (s.physical_address + s.memory_size) then Some BeyondPhysical
+    else if nat_lt 65536 (s.virtual_address + s.memory_size) then Some BeyondVirtual
+    else None
 
 -- where its bytes in the file end once they are loaded, at its physical address; 0 if it has none
 abbrev pub file_end : Segment → ℕ
-file_end s = cond (s.file_size == 0) 0 (s.physical_address + s.file_size)
+file_end s = if s.file_size == 0 then 0 else s.physical_address + s.file_size
 
 -- where its bytes in memory end, by either address
 abbrev pub memory_end : Segment → ℕ

@@ -12,9 +12,9 @@ none_parts None p e = (refl, e)
 none_parts (Some x) p e = absurd cc
 
 -- a test that gives no fault
-pub passed : {A : Type 0} (b : Bool) (x : A) (o : Option A) → (if b then Some x else o) ≡ None → (b ≡ false) × (o ≡ None)
-passed false x o e = (refl, e)
-passed true x o e = absurd cc
+pub if_none_parts : {A : Type 0} (b : Bool) (x : A) (o : Option A) → (if b then Some x else o) ≡ None → (b ≡ false) × (o ≡ None)
+if_none_parts false x o e = (refl, e)
+if_none_parts true x o e = absurd cc
 
 pub faultless_parts : (size : ℕ) (s : Segment) (rest : List Segment) → first_fault size (s ∷ rest) ≡ None
     → (segment_fault size s ≡ None) × (first_fault size rest ≡ None)
@@ -27,13 +27,13 @@ pub record IsSound (size : ℕ) (s : Segment) : Type 0 where
   pub physical : s.physical_address + s.memory_size ≤ 65536
   pub virtual : s.virtual_address + s.memory_size ≤ 65536
 
-pub sound : (size : ℕ) (s : Segment) → segment_fault size s ≡ None → IsSound size s
-sound size s e =
-    let a = passed _ _ _ e in
+pub IsSound-from_none : (size : ℕ) (s : Segment) → segment_fault size s ≡ None → IsSound size s
+IsSound-from_none size s e =
+    let a = if_none_parts _ _ _ e in
     let within : (ltb 0 s.file_size && ltb size (s.offset + s.file_size)) ≡ false = a.0 in
-    let b = passed _ _ _ a.1 in
-    let c = passed _ _ _ b.1 in
-    let d = passed _ _ _ c.1 in
+    let b = if_none_parts _ _ _ a.1 in
+    let c = if_none_parts _ _ _ b.1 in
+    let d = if_none_parts _ _ _ c.1 in
     record {
       in_file = λ h. ltb-false size (s.offset + s.file_size) (rw (lt-ltb 0 s.file_size h) at within);
       no_more = ltb-false _ _ b.0;

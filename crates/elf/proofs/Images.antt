@@ -2,7 +2,7 @@
 use Rattle.std.proofs.Common.{◌≡◌, ℕ, ◌≤◌, true, false, if◌then◌else◌, List, [], ◌∷◌, fold, max, refl, inl, inr, arith, rules, tests}
 use Rattle.std.specs.List.{list_any}
 use Rattle.std.proofs.lemmas.Bool.{both_ways, cases_Bool, or_parts, false_from_ne_true}
-use Rattle.elf.specs.Segments.{overlap, file_end, has, stored}
+use Rattle.elf.specs.Segments.{overlap, file_end, has, stored_byte}
 use Rattle.elf.specs.Images.{image_size, byte_at}
 use Rattle.elf.specs.declared.segment.Segment.{Segment}
 
@@ -22,10 +22,10 @@ byte_at-apart file s (t ∷ rest) d x e h =
 -- a segment may be put first, if it overlaps none of the others
 pub byte_at-first : (file : List ℕ) (s : Segment) (rest : List Segment) (d x : ℕ)
     → list_any (overlap s) rest ≡ false
-    → byte_at file rest (if has s x then stored file s x else d) x ≡ byte_at file (s ∷ rest) d x
+    → byte_at file rest (if has s x then stored_byte file s x else d) x ≡ byte_at file (s ∷ rest) d x
 byte_at-first file s rest d x e =
     elim (cases_Bool (has s x)) [
-      | inl here ↦ rw here (byte_at-apart file s rest (stored file s x) x e here)
+      | inl here ↦ rw here (byte_at-apart file s rest (stored_byte file s x) x e here)
       | inr elsewhere ↦ rw elsewhere refl
     ]
 

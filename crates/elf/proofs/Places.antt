@@ -6,7 +6,7 @@ use Rattle.std.specs.Simd.{first_chunks}
 use Rattle.std.proofs.lemmas.List.{drop-drop, get_or_past}
 use Rattle.elf.specs.Fields.{byte}
 use Rattle.elf.specs.Headers.{e_phoff, e_phnum, headers}
-use Rattle.elf.specs.Segments.{p_type, p_offset, p_paddr, p_filesz, p_memsz, is_loaded, segment, segments, file_end, has, stored, overlap}
+use Rattle.elf.specs.Segments.{p_type, p_offset, p_paddr, p_filesz, p_memsz, is_loaded, segment, segments, file_end, has, stored_byte, overlap}
 use Rattle.elf.specs.Images.{any_overlap, image_size, byte_at, IsImage}
 use Rattle.elf.specs.Places.{program_header, IsLoadable, IsElsewhere, Stands}
 use Rattle.elf.proofs.Images.{overlap_where_both, image_size-parts}
@@ -73,17 +73,17 @@ none_of p (header ∷ rest) (suc k) h l e =
 own_byte : (file : List ℕ) (hs : List (List ℕ)) (k d x : ℕ) → k < length hs
     → is_loaded (get_or hs k []) ≡ true → has (segment (get_or hs k [])) x ≡ true
     → any_overlap (segments hs) ≡ false
-    → byte_at file (segments hs) d x ≡ stored file (segment (get_or hs k [])) x
+    → byte_at file (segments hs) d x ≡ stored_byte file (segment (get_or hs k [])) x
 own_byte file [] k d x h l m e = absurd (omega arith)
 own_byte file (header ∷ rest) zero d x h l m e =
-    ap (λ (ss : List Segment). byte_at file ss d x) (segments-loaded header rest l) ∙ cond-true (has (segment header) x) (stored file (segment header) x) (byte_at file (segments rest) d x) m
+    ap (λ (ss : List Segment). byte_at file ss d x) (segments-loaded header rest l) ∙ cond-true (has (segment header) x) (stored_byte file (segment header) x) (byte_at file (segments rest) d x) m
 own_byte file (header ∷ rest) (suc k) d x h l m e =
     elim (cases_Bool (is_loaded header)) [
       | inl first ↦
           let apart = or_parts (list_any (overlap (segment header)) (segments rest)) (any_overlap (segments rest)) (rw (segments-loaded header rest first) at e) in
           let other : overlap (segment header) (segment (get_or rest k [])) ≡ false = none_of (overlap (segment header)) rest k (omega arith) l apart.0 in
           let elsewhere : has (segment header) x ≡ false = false_from_ne_true (has (segment header) x) (λ t. both_ways (overlap (segment header) (segment (get_or rest k []))) other (overlap_where_both (segment header) (segment (get_or rest k [])) x t m)) in
-          ap (λ (ss : List Segment). byte_at file ss d x) (segments-loaded header rest first) ∙ (cond-false (has (segment header) x) (stored file (segment header) x) (byte_at file (segments rest) d x) elsewhere ∙ own_byte file rest k d x (omega arith) l m apart.1)
+          ap (λ (ss : List Segment). byte_at file ss d x) (segments-loaded header rest first) ∙ (cond-false (has (segment header) x) (stored_byte file (segment header) x) (byte_at file (segments rest) d x) elsewhere ∙ own_byte file rest k d x (omega arith) l m apart.1)
       | inr passed ↦
           ap (λ (ss : List Segment). byte_at file ss d x) (segments-passed header rest passed) ∙ own_byte file rest k d x (omega arith) l m (rw (segments-passed header rest passed) at e)
     ]
@@ -120,7 +120,7 @@ no_byte file (header ∷ rest) x h =
       | inl first ↦
           let type_so = eqb-true (p_type header) 1 (and_parts (eqb (p_type header) 1) (not (eqb (p_filesz header) 0 && eqb (p_memsz header) 0)) first).0 in
           let elsewhere = has_none header x (h 0 (omega arith) type_so) in
-          ap (λ (ss : List Segment). byte_at file ss 0 x) (segments-loaded header rest first) ∙ (cond-false (has (segment header) x) (stored file (segment header) x) (byte_at file (segments rest) 0 x) elsewhere ∙ behind)
+          ap (λ (ss : List Segment). byte_at file ss 0 x) (segments-loaded header rest first) ∙ (cond-false (has (segment header) x) (stored_byte file (segment header) x) (byte_at file (segments rest) 0 x) elsewhere ∙ behind)
       | inr passed ↦ ap (λ (ss : List Segment). byte_at file ss 0 x) (segments-passed header rest passed) ∙ behind
     ]
 
@@ -141,7 +141,7 @@ byte_stands file image hs k i header same h apart made filled l =
     let s = segment header in
     let load : is_loaded (get_or hs k []) ≡ true = rw same (is_loaded_where_filled header filled) in
     let here : has (segment (get_or hs k [])) (p_paddr header + i) ≡ true = rw same (has_own s i l) in
-    let own : byte_at file (segments hs) 0 (p_paddr header + i) ≡ stored file s (p_paddr header + i) = rw same at (own_byte file hs k 0 (p_paddr header + i) h load here apart) in
+    let own : byte_at file (segments hs) 0 (p_paddr header + i) ≡ stored_byte file s (p_paddr header + i) = rw same at (own_byte file hs k 0 (p_paddr header + i) h load here apart) in
     let end : file_end s ≤ image_size (segments hs) = rw same at (own_end hs k h load) in
     let inside : p_paddr header + i < length image = omega (arith, file_end-filled s filled.some, end, made.size_so, l) in
     let back : p_paddr header + i - p_paddr header ≡ i = omega arith in
@@ -159,9 +159,9 @@ zero_stands file image x made h =
       | inr behind ↦ get_or_past image x 0 behind
     ]
 
-pub stands : (file image : List ℕ) → any_overlap (segments (headers file)) ≡ false
+pub Stands-from_image : (file image : List ℕ) → any_overlap (segments (headers file)) ≡ false
     → IsImage file (segments (headers file)) image → Stands file image
-stands file image apart made = record {
+Stands-from_image file image apart made = record {
   bytes_so = λ k i h l. byte_stands file image (headers file) k i (program_header file k) (header_by_number file k h.there) (omega (arith, header_count file, h.there)) apart made record { type_so = h.type_so; some = omega (arith, l) } l;
   zeros_so = λ x h. zero_stands file image x made h;
 }

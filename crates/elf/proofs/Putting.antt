@@ -3,7 +3,7 @@ use Rattle.std.proofs.Common.{◌≡◌, ◌≢◌, ℕ, ◌+◌, ◌-◌, ◌�
 use borrow.Rule.Slice.PartMut.{put_mid}
 use Rattle.std.proofs.lemmas.Bool.{cases_lt, le-leb, lt-leb, lt-ltb, le-ltb, ne_eqb, cond-false}
 use Rattle.std.proofs.lemmas.List.{places}
-use Rattle.elf.specs.Segments.{file_end, has, stored}
+use Rattle.elf.specs.Segments.{file_end, has, stored_byte}
 use Rattle.elf.specs.declared.segment.Segment.{Segment}
 
 -- n bytes from one place of a file, put to another place of an image
@@ -31,7 +31,7 @@ byte_in_put file image part from to n i h g e =
 pub byte_after_put : (file image part : List ℕ) (s : Segment) (i : ℕ) → s.file_size ≢ 0
     → file_end s ≤ length image → s.offset + s.file_size ≤ length file
     → part ≡ take (s.offset + s.file_size - s.offset) (drop s.offset file)
-    → get_or (put_mid s.physical_address (s.physical_address + s.file_size - s.physical_address) image part) i 0 ≡ (if has s i then stored file s i else get_or image i 0)
+    → get_or (put_mid s.physical_address (s.physical_address + s.file_size - s.physical_address) image part) i 0 ≡ (if has s i then stored_byte file s i else get_or image i 0)
 byte_after_put file image part s i some room within e =
     let cut : s.offset + s.file_size - s.offset ≡ s.file_size = omega arith in
     let put : s.physical_address + s.file_size - s.physical_address ≡ s.file_size = omega arith in

@@ -4,7 +4,7 @@ use Rattle.std.proofs.lemmas.Bool.{cond_both}
 use Rattle.elf.specs.Segments.{file_end, memory_end}
 use Rattle.elf.specs.Images.{first_fault, image_size, memory_size}
 use Rattle.elf.specs.declared.segment.Segment.{Segment}
-use Rattle.elf.proofs.Faultless.{IsSound, sound, faultless_parts}
+use Rattle.elf.proofs.Faultless.{IsSound, IsSound-from_none, faultless_parts}
 
 memory_end_small : (size : ℕ) (s : Segment) → IsSound size s → memory_end s ≤ 65536
 memory_end_small size s h = omega (arith, h.physical, h.virtual)
@@ -18,7 +18,7 @@ memory_small_from : (size : ℕ) (ss : List Segment) (n : ℕ) → first_fault s
 memory_small_from size [] n e h = h
 memory_small_from size (s ∷ rest) n e h =
     let parts = faultless_parts size s rest e in
-    let small = memory_end_small size s (sound size s parts.0) in
+    let small = memory_end_small size s (IsSound-from_none size s parts.0) in
     memory_small_from size rest (max n (memory_end s)) parts.1 (omega (arith, small))
 
 image_within_from : (size : ℕ) (ss : List Segment) (m n : ℕ) → first_fault size ss ≡ None → m ≤ n
@@ -26,7 +26,7 @@ image_within_from : (size : ℕ) (ss : List Segment) (m n : ℕ) → first_fault
 image_within_from size [] m n e h = h
 image_within_from size (s ∷ rest) m n e h =
     let parts = faultless_parts size s rest e in
-    let within = file_end_within size s (sound size s parts.0) in
+    let within = file_end_within size s (IsSound-from_none size s parts.0) in
     image_within_from size rest (max m (file_end s)) (max n (memory_end s)) parts.1 (omega (arith, within))
 
 pub memory_small : (size : ℕ) (ss : List Segment) → first_fault size ss ≡ None → memory_size ss ≤ 65536

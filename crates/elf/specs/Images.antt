@@ -2,7 +2,7 @@
 use Rattle.std.specs.Prelude.{◌≡◌, ℕ, Bool, false, ◌||◌, if◌then◌else◌, List, [], ◌∷◌, length, Some, None, Option, fold, max, ◌==◌, slice_index, EachIndex}
 use Rattle.std.specs.List.{list_any}
 use Rattle.std.specs.Option.{option_or}
-use Rattle.elf.specs.Segments.{segment_fault, file_end, memory_end, has, stored, overlap}
+use Rattle.elf.specs.Segments.{segment_fault, file_end, memory_end, has, stored_byte, overlap}
 use Rattle.elf.specs.declared.segment.Segment.{Segment}
 use Rattle.elf.specs.declared.fault.Fault.{Fault}
 use Rattle.elf.specs.declared.fault.Fault.TheVariants.{Overlapping, NothingToLoad}
@@ -36,11 +36,11 @@ segments_fault size ss =
 -- the byte at x: that of the segment that has one there, or d where none has
 abbrev pub byte_at : List ℕ → List Segment → ℕ → ℕ → ℕ
 byte_at file [] d x = d
-byte_at file (s ∷ rest) d x = if has s x then stored file s x else byte_at file rest d x
+byte_at file (s ∷ rest) d x = if has s x then stored_byte file s x else byte_at file rest d x
 
 -- an image after their bytes were put into it
-abbrev pub Put : List ℕ → List Segment → List ℕ → List ℕ → Type 0
-Put file ss old new =
+abbrev pub Puts : List ℕ → List Segment → List ℕ → List ℕ → Type 0
+Puts file ss old new =
     EachIndex new (λ x. slice_index new x ≡ byte_at file ss (slice_index old x) x)
 
 -- the image of segments: their bytes, and zeros between them

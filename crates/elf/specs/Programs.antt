@@ -4,7 +4,7 @@ use Rattle.std.specs.Option.{option_or}
 use Rattle.elf.specs.Headers.{e_entry, headers, kind_fault, table_fault}
 use Rattle.elf.specs.Segments.{segments}
 use Rattle.elf.specs.Images.{segments_fault, memory_size, IsImage}
-use Rattle.elf.specs.Tables.{left}
+use Rattle.elf.specs.Tables.{segments_left}
 use Rattle.elf.specs.declared.segment.Segment.{Segment}
 use Rattle.elf.specs.declared.segments.Segments.{Segments}
 use Rattle.elf.specs.declared.program.Program.{Program}
@@ -25,7 +25,7 @@ fault file =
 
 -- the segments that are loaded, of a file without a fault; or its first fault
 abbrev pub Checked : List ℕ → Result Segments Fault → Type 0
-Checked file (Ok table) = (fault file ≡ None) × (left table ≡ loaded_segments file)
+Checked file (Ok table) = (fault file ≡ None) × (segments_left table ≡ loaded_segments file)
 Checked file (Err why) = fault file ≡ Some why
 
 -- what a file loads

@@ -39,12 +39,12 @@ segment header = record {
   memory_size = p_memsz header;
 }
 
-abbrev pub loaded : List ℕ → Option Segment
-loaded header = if is_loaded header then Some (segment header) else None
+abbrev pub loaded_segment : List ℕ → Option Segment
+loaded_segment header = if is_loaded header then Some (segment header) else None
 
 -- the segments that are loaded, of many program headers
 abbrev pub segments : List (List ℕ) → List Segment
-segments headers = filter_map loaded headers
+segments headers = filter_map loaded_segment headers
 
 -- the first fault that a segment has by itself, in a file of so many bytes
 abbrev pub segment_fault : ℕ → Segment → Option Fault
@@ -68,8 +68,8 @@ abbrev pub has : Segment → ℕ → Bool
 has s x = nat_le s.physical_address x && nat_lt x (file_end s)
 
 -- that byte
-abbrev pub stored : List ℕ → Segment → ℕ → ℕ
-stored file s x = byte file (s.offset + (x - s.physical_address))
+abbrev pub stored_byte : List ℕ → Segment → ℕ → ℕ
+stored_byte file s x = byte file (s.offset + (x - s.physical_address))
 
 -- bytes of both are loaded at one address: each begins before the other ends
 abbrev pub overlap : Segment → Segment → Bool

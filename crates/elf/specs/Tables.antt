@@ -5,5 +5,5 @@ use Rattle.elf.specs.declared.segment.Segment.{Segment}
 use Rattle.elf.specs.declared.segments.Segments.{Segments}
 
 -- those that are left
-abbrev pub left : Segments → List Segment
-left table = segments table.headers.now
+abbrev pub segments_left : Segments → List Segment
+segments_left table = segments table.headers.now

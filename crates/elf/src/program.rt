@@ -21,7 +21,7 @@ pub struct Program {
 }
 
 /// The segments that a file loads, or its first fault.
-fn checked(file: &[u8]) -> Result<Segments<'_>, Fault>
+fn checked_segments(file: &[u8]) -> Result<Segments<'_>, Fault>
     ensures { Checked file.now result }
 {
     check_kind(file)?;
@@ -37,7 +37,7 @@ pub fn read(heap: Global, file: &[u8]) -> Result<Program, ReadError>
     ensures stands { IfOk result (λ p. Stands file.now p.bytes.items) }
     ensures fits { IfOk result FitsMemory }
 {
-    let segments = checked(file)?;
+    let segments = checked_segments(file)?;
     Ok(Program {
         bytes: segments.image(heap, file)?,
         memory_size: segments.memory_size() as u32,

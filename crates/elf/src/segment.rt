@@ -1,8 +1,8 @@
 //! A segment that is loaded.
 ghost use Rattle.std.specs.Prelude.{◌≡◌, ◌≤◌, [], ◌∷◌, None, length};
 ghost use Rattle.std.specs.Result.{result_err};
-ghost use Rattle.elf.specs.Segments.{loaded, segment_fault, file_end, memory_end, overlap};
-ghost use Rattle.elf.specs.Images.{Put};
+ghost use Rattle.elf.specs.Segments.{loaded_segment, segment_fault, file_end, memory_end, overlap};
+ghost use Rattle.elf.specs.Images.{Puts};
 
 use crate::fault::Fault;
 use crate::field::word;
@@ -40,9 +40,9 @@ pub(crate) struct Segment {
 }
 
 impl Segment {
-    /// The segment of a program header; none where it is not loaded or has no bytes, neither in the file nor in memory.
-    pub fn loaded(header: &[u8; PROGRAM_HEADER_SIZE]) -> Option<Segment>
-        ensures { result ≡ loaded header.now }
+    /// The segment of a program header; none where it is not loadable or has no bytes at all.
+    pub fn from_header(header: &[u8; PROGRAM_HEADER_SIZE]) -> Option<Segment>
+        ensures { result ≡ loaded_segment header.now }
     {
         let segment = Segment {
             offset: word(header, P_OFFSET),
@@ -107,7 +107,7 @@ impl Segment {
     pub fn put(&self, file: &[u8], image: &mut [u8])
         requires faultless { segment_fault (length file.now) self.now ≡ None }
         requires room { file_end self.now ≤ length image.old }
-        ensures { Put file.now (self.now ∷ []) image.old image.new }
+        ensures { Puts file.now (self.now ∷ []) image.old image.new }
     {
         if self.file_size == 0 {
             return;

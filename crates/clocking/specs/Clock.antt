@@ -40,7 +40,6 @@ module _ (size : ℕ) where
   abbrev pub decodes : Registers → Latches → Option Reply → DecodeOut
   decodes g k reply = decode_stage (reads g k reply) k.x k.d (executes k reply).flow
 
-  -- text is the size of the instruction memory
   abbrev pub plans : ℕ → Registers → Latches → Option Reply → Result (Option Request) Cause
   plans instructions_size g k reply = fetch_request instructions_size k.f (decodes g k reply).flow
 

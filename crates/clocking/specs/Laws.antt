@@ -252,7 +252,7 @@ module _ (size : ℕ) (k : Latches) (reply : Option Reply) where
       pub hazard : has_hazard ≡ true → x ≡ Empty
       pub moves : x_is_free ≡ true → is_short k.d ≡ false → x ≡ in_x k.d
 
-  -- D and F after the clock; text is the size of the instruction memory, guess is F after a word
+  -- D and F after the clock; guess is F after a word
   pub record FetchLaw
       (instructions_size : ℕ) (guess : ℕ → ℕ) (answer : Option Reply) (n : Latches) : Type 0 where
     pub data_rolls : rolls_by_data ≡ true → (n.d ≡ Empty) × (n.f ≡ k.f)

@@ -1,7 +1,7 @@
--- What a stack of any depth replies follows from the calls. Assumes nothing.
+-- What a layer, and a stack of any depth, replies follows from the calls. Assumes nothing.
 use Rattle.std.proofs.Common.{ℕ, zero, suc}
 use Rattle.memory.specs.Laws.Flat.{flat_lawful}
-use Rattle.memory.specs.Meaning.{Lawful}
+use Rattle.memory.specs.Meaning.{Meaning, Lawful}
 use Rattle.memory.specs.Runs.{Replays}
 use Rattle.memory.specs.Laws.Sum.{sum_lawful}
 use Rattle.memory.proofs.FlatReplays.{flat_replays}
@@ -10,15 +10,20 @@ use Rattle.wait_states.specs.Laws.WaitStates.{wait_lawful}
 use Rattle.wait_states.proofs.WaitReplays.{wait_replays}
 use Rattle.write_buffer.specs.Laws.WriteBuffer.{buffer_lawful}
 use Rattle.write_buffer.proofs.BufferReplays.{buffer_replays}
+use Rattle.dispatch.specs.Layers.{layer_means}
 use Rattle.dispatch.specs.Stacks.{means}
+
+module _ {M : Type 0} {m : Meaning M} (laws : Lawful m) where
+  layer_lawful : Lawful (layer_means m)
+  layer_lawful = sum_lawful (wait_lawful laws) (buffer_lawful laws)
+
+  pub layer_replays : Replays m → Replays (layer_means m)
+  layer_replays below = sum_replays (wait_replays laws below) (buffer_replays laws below)
 
 lawful : (n : ℕ) → Lawful (means n)
 lawful zero = flat_lawful
-lawful (suc n) = sum_lawful (wait_lawful (lawful n)) (buffer_lawful (lawful n))
+lawful (suc n) = layer_lawful (lawful n)
 
 pub stack_replays : (n : ℕ) → Replays (means n)
 stack_replays zero = flat_replays
-stack_replays (suc n) =
-    let laws = lawful n in
-    let below = stack_replays n in
-    sum_replays (wait_replays laws below) (buffer_replays laws below)
+stack_replays (suc n) = layer_replays (lawful n) (stack_replays n)

@@ -1,7 +1,8 @@
 -- A layer that is chosen at run time: wait states or a write buffer. Assumes nothing.
 use Rattle.std.specs.Prelude.{◌≡◌, ℕ, ◌+◌, ◌*◌, Bool, false, true, [], None, Result}
-use Rattle.base.specs.Refusals.{Says}
+use Rattle.base.specs.Refusals.{number, Says}
 use Rattle.base.specs.declared.refusal.Refusal.{Refusal}
+use Rattle.base.specs.declared.refusal.Refusal.TheVariants.{LongWait}
 use Rattle.either.specs.declared.Either.{Either}
 use Rattle.either.specs.declared.Either.TheVariants.{Left, Right}
 use Rattle.memory.specs.Meaning.{View, Meaning}
@@ -33,7 +34,7 @@ module _ {M : Type 0} where
   -- a write buffer over a memory, that holds nothing
   pub record BufferOver (lower : M) (b : WriteBuffer M) : Type 0 where
     pub below : b.below ≡ lower
-    pub held : writes_in b.posted ≡ []
+    pub posted : writes_in b.posted ≡ []
 
   -- the chosen layer over a memory, as it starts
   abbrev pub Starts : M → LayerChoice → Layer M → Type 0
@@ -60,7 +61,7 @@ pub record Stands {M : Type 0} (v : View M) (lower : M) (choice : LayerChoice) (
   pub byte : (x : ℕ) → (layer_view v).byte l x ≡ v.byte lower x
   pub longest : (layer_view v).longest l ≡ layer_wait choice (v.longest lower)
 
--- The answer to a memory and a choice: the layer, or number 2 where it does not fit.
+-- The answer to a memory and a choice: the layer, or the number of a wait that is too long.
 abbrev pub Added : {M : Type 0} → View M → M → LayerChoice → Result (Layer M) Refusal → Type 0
 Added v lower choice =
-    Says (Stands v lower choice) (λ why. (why ≡ 2) × (layer_fits choice (v.longest lower) ≡ false))
+    Says (Stands v lower choice) (λ why. (why ≡ number LongWait) × (layer_fits choice (v.longest lower) ≡ false))

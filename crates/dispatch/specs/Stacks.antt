@@ -1,8 +1,9 @@
 -- Stacks of memories that are chosen at run time. Assumes nothing.
 use Rattle.std.specs.Prelude.{◌≡◌, ℕ, zero, suc, ◌%◌, Bool, true, false, if◌then◌else◌, ◌&&◌, List, [], ◌∷◌, Some, None, Option, vec_items, vec_len, Result, Vec, slice_index}
 use Rattle.std.specs.declared.alloc.Global.{Global}
-use Rattle.base.specs.Refusals.{Says}
+use Rattle.base.specs.Refusals.{number, Says}
 use Rattle.base.specs.declared.refusal.Refusal.{Refusal}
+use Rattle.base.specs.declared.refusal.Refusal.TheVariants.{FlatSize, LongWait}
 use Rattle.memory.specs.declared.flat.Flat.{Flat as FlatMemory}
 use Rattle.memory.specs.Flat.{flat_fits, flat_bytes, flat_size, flat_means}
 use Rattle.memory.specs.Meaning.{Meaning}
@@ -77,11 +78,10 @@ pub record Built (bytes : Vec ℕ Global) (ls : List LayerChoice) (n : ℕ) (m :
   pub byte : (x : ℕ) → (means n).view.byte m x ≡ slice_index (vec_items bytes) x % 256
   pub longest : (means n).view.longest m ≡ longest_wait ls
 
--- The number of a refusal: 1 where a flat memory cannot have so many bytes, else 2 where a layer
--- does not fit.
+-- The number of a refusal: a flat memory cannot have so many bytes, or else a layer does not fit.
 abbrev pub Unfit : Vec ℕ Global → List LayerChoice → ℕ → Type 0
 Unfit bytes ls why =
-    (why ≡ (if flat_fits (vec_len bytes) then 2 else 1)) × (stack_fits bytes ls ≡ false)
+    (why ≡ (if flat_fits (vec_len bytes) then number LongWait else number FlatSize)) × (stack_fits bytes ls ≡ false)
 
 -- The answer to these bytes and layers: the memory of that depth, or a refusal.
 abbrev pub Answered : Vec ℕ Global → List LayerChoice → (n : ℕ) → Result (Layered n) Refusal → Type 0

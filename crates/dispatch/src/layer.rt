@@ -1,4 +1,6 @@
 //! A layer of a memory stack that is chosen at run time.
+ghost use Rattle.base.specs.Refusals.{number};
+ghost use Rattle.base.specs.declared.refusal.Refusal.TheVariants.{LongWait};
 ghost use Rattle.memory.specs.Meaning.{Checked};
 ghost use Rattle.dispatch.specs.Layers.{layer_fits, Added, Starts};
 
@@ -14,7 +16,8 @@ pub type Layer<M> = Either<WaitStates<M>, WriteBuffer<M>>;
 
 /// Refuses a layer that does not pass its own check over that memory.
 pub fn check<M: Memory>(below: &M, choice: LayerChoice) -> Result<(), Refusal>
-    ensures { Checked (layer_fits choice (M.Memory.means.view.longest below.now)) 2 result }
+    ensures { Checked (layer_fits choice (M.Memory.means.view.longest below.now))
+        (number LongWait) result }
 {
     match choice {
         LayerChoice::WaitStates(states) => WaitStates::check(below, states),

@@ -6,15 +6,15 @@ use Rattle.either.specs.declared.Either.{Either}
 use Rattle.either.specs.declared.Either.TheVariants.{Left, Right}
 use Rattle.memory.specs.Meaning.{Reply, Meaning}
 use Rattle.memory.specs.Runs.{Runs, none, asked, idled, Replays}
-use Rattle.memory.specs.Sums.{Stays, sum_means}
+use Rattle.memory.specs.Sums.{SameKind, sum_means}
 
 -- what stays of its kind is of that kind after
 module _ {A B : Type 0} (F : A → A → Type 0) (G : B → B → Type 0) where
-  left : (a : A) (o : Either A B) → Stays F G (Left a) o → (b : A) × (o ≡ Left b) × F a b
+  left : (a : A) (o : Either A B) → SameKind F G (Left a) o → (b : A) × (o ≡ Left b) × F a b
   left a (Left b) h = (b, refl, h)
   left a (Right b) h = absurd h
 
-  right : (a : B) (o : Either A B) → Stays F G (Right a) o → (b : B) × (o ≡ Right b) × G a b
+  right : (a : B) (o : Either A B) → SameKind F G (Right a) o → (b : B) × (o ≡ Right b) × G a b
   right a (Left b) h = absurd h
   right a (Right b) h = (b, refl, h)
 

@@ -14,14 +14,14 @@ module _ {A B : Type 0} where
   }
 
   -- it stays of its kind, and moves as that kind does
-  abbrev pub Stays : (A → A → Type 0) → (B → B → Type 0) → Either A B → Either A B → Type 0
-  Stays F G (Left a) (Left b) = F a b
-  Stays F G (Right a) (Right b) = G a b
-  Stays F G _ _ = ⊥
+  abbrev pub SameKind : (A → A → Type 0) → (B → B → Type 0) → Either A B → Either A B → Type 0
+  SameKind F G (Left a) (Left b) = F a b
+  SameKind F G (Right a) (Right b) = G a b
+  SameKind F G _ _ = ⊥
 
   abbrev pub sum_means : Meaning A → Meaning B → Meaning (Either A B)
   sum_means l m = record {
     view = sum_view l.view m.view;
-    serves = λ s q r t. Stays (λ a b. l.serves a q r b) (λ a b. m.serves a q r b) s t;
-    idles = Stays l.idles m.idles;
+    serves = λ s q r t. SameKind (λ a b. l.serves a q r b) (λ a b. m.serves a q r b) s t;
+    idles = SameKind l.idles m.idles;
   }

@@ -19,7 +19,7 @@ mod sum;
 mod tests;
 pub mod tournament;
 
-/// What guesses whether conditional branches are taken, and learns from what became of them.
+/// What guesses whether conditional branches are taken, and learns from their outcomes.
 pub trait Predictor {
     /// Its guess for every branch, by address and target, after every list of outcomes still to come.
     ghost table: { Self → List Outcome → ℕ → ℕ → Bool };
@@ -28,7 +28,7 @@ pub trait Predictor {
     fn guess(&self, address: u32, target: u32) -> bool
         ensures { result ≡ table self.now [] address target };
 
-    /// What became of a branch: the table moves on by it.
+    /// Learns the outcome of a branch: the table moves on by it.
     fn update(&mut self, outcome: Outcome)
         ensures { MovedOn (table self.old) outcome (table self.new) };
 }

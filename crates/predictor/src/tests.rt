@@ -14,7 +14,7 @@ const T: bool = true;
 /// Not taken.
 const N: bool = false;
 
-/// What became of the branch at `address`, back to 0x10.
+/// The outcome of the branch at `address`, back to 0x10.
 fn back(address: u32, taken: bool) -> Outcome {
     Outcome {
         address,

@@ -1,6 +1,5 @@
 -- The lines of a report as one text. Assumes nothing.
-use Rattle.std.proofs.Common.{◌≡◌, List, ℕ, ◌∷◌, [], ◌++◌, Some, None, Option, refl, sym, ap, ◌∙◌, append_assoc}
-use Rattle.sequential.specs.declared.record.Stop.{Stop}
+use Rattle.std.proofs.Common.{◌≡◌, List, ℕ, ◌∷◌, [], ◌++◌, sym, ◌∙◌, append_assoc}
 use Rattle.seqtable.specs.Records.{end_text}
 use Rattle.setup.specs.declared.choice.Setup.{Setup}
 use Rattle.report.specs.Lines.{setup_lines, bounds_line, totals_line, gap_line, last_line, bound, report_text}

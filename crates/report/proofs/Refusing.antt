@@ -4,6 +4,8 @@ use Rattle.std.proofs.lemmas.Bool.{and_parts}
 use Rattle.std.specs.declared.alloc.Global.{Global}
 use Rattle.base.specs.declared.failure.Failure.{Failure}
 use Rattle.base.specs.declared.failure.Failure.TheVariants.{Refused, OutOfMemory}
+use Rattle.base.specs.Refusals.{number}
+use Rattle.base.specs.declared.refusal.Refusal.TheVariants.{FlatSize, LongWait}
 use Rattle.memory.specs.Flat.{flat_fits}
 use Rattle.pipeline.specs.Calls.{load_fits}
 use Rattle.dispatch.specs.Stacks.{depth, memory, stack_means, layers, layers_fit, Built, Unfit}
@@ -22,7 +24,7 @@ module _ (s : Setup) (v : Vec ℕ Global) where
   -- and its refusal
   pub data_unfit : (why : ℕ) → vec_len v ≡ s.data_size → Unfit v (layers s.data_memory) why → DataUnfit s why
   data_unfit why n h =
-      (h.0 ∙ ap (λ (k : ℕ). if flat_fits k then 2 else 1) n, sym (ap (λ (k : ℕ). flat_fits k && layers_fit (layers s.data_memory)) n) ∙ h.1)
+      (h.0 ∙ ap (λ (k : ℕ). if flat_fits k then number LongWait else number FlatSize) n, sym (ap (λ (k : ℕ). flat_fits k && layers_fit (layers s.data_memory)) n) ∙ h.1)
 
 -- the whole answer, from the two memories and the run over them
 module _ (s : Setup) (v : Vec ℕ Global) (i d : Stack) (b : Built v (layers s.instructions) (depth i) (memory i)) (made : DataMade s d) where

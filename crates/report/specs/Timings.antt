@@ -2,9 +2,10 @@
 use Rattle.std.specs.Prelude.{◌≡◌, ℕ, ◌≤◌, Bool, true, false, if◌then◌else◌, not, ◌&&◌, ◌⊎◌, List, [], ◌++◌, length, replicate, Some, None, vec_items, string_bytes, Option, Result, Vec, String, ⊤}
 use Rattle.std.specs.declared.alloc.Global.{Global}
 use Rattle.base.specs.Failures.{FailureSays}
-use Rattle.base.specs.Refusals.{Says}
+use Rattle.base.specs.Refusals.{number, Says}
 use Rattle.base.specs.declared.failure.Failure.{Failure}
 use Rattle.base.specs.declared.refusal.Refusal.{Refusal}
+use Rattle.base.specs.declared.refusal.Refusal.TheVariants.{FlatSize, LongWait, BadStart}
 use Rattle.memory.specs.Flat.{flat_fits}
 use Rattle.memory.specs.Meaning.{Meaning}
 use Rattle.clocking.specs.Ports.{TableOf}
@@ -59,8 +60,8 @@ module _ {I : Type 0} (instructions : Meaning I) where
   starts_in s i = load_fits 0 (instructions.view.size i) s.start
 
   -- the number of the refusal of a start that does not
-  abbrev pub BadStart : Setup → I → ℕ → Type 0
-  BadStart s i why = (why ≡ 3) × (starts_in s i ≡ false)
+  abbrev pub StartRefused : Setup → I → ℕ → Type 0
+  StartRefused s i why = (why ≡ number BadStart) × (starts_in s i ≡ false)
 
 module _ {I D : Type 0} (instructions : Meaning I) (data_memory : Meaning D) where
   -- the longest waits that two memories state
@@ -74,10 +75,10 @@ module _ {I D : Type 0} (instructions : Meaning I) (data_memory : Meaning D) whe
     pub loaded : Loaded (instructions.view.size i) 0 s.start predictor i d m
     pub agrees : Agrees chosen_table instructions data_memory m
 
-  -- the loaded machine with the longest waits of its memories, or refusal 3
+  -- the loaded machine with the longest waits of its memories, or the refusal of the start
   abbrev pub AssemblyAnswer : Setup → I → D → Result (Assembly Chosen I D) Refusal → Type 0
   AssemblyAnswer s i d =
-      Says (λ a. (starts_in instructions s i ≡ true) × Assembled s i d a.machine × (a.longest ≡ longest_over i d)) (BadStart instructions s i)
+      Says (λ a. (starts_in instructions s i ≡ true) × Assembled s i d a.machine × (a.longest ≡ longest_over i d)) (StartRefused instructions s i)
 
   -- the text is that of the run over these memories that the set-up asks for
   pub record RunOver (s : Setup) (w : Longest) (i : I) (d : D) (text : List ℕ) : Type 0 where
@@ -85,11 +86,11 @@ module _ {I D : Type 0} (instructions : Meaning I) (data_memory : Meaning D) whe
     pub assembled : Assembled s i d first
     pub run : Shown chosen_table instructions data_memory s w first text
 
-  -- the text of the run, or refusal 3; there may be no memory for the text
+  -- the text of the run, or the refusal of the start; there may be no memory for the text
   abbrev pub RunAnswer : Setup → I → D → Result (String Global) Failure → Type 0
   RunAnswer s i d =
       FailureSays (λ text. (starts_in instructions s i ≡ true) × RunOver s (longest_over i d) i d (string_bytes text))
-      (BadStart instructions s i) ⊤
+      (StartRefused instructions s i) ⊤
 
 -- ---- the memories of a set-up
 
@@ -102,10 +103,10 @@ pub record OfBytes (ls : List LayerChoice) (bytes : List ℕ) (stack : Stack) : 
 -- what a check refuses of a set-up for an image of that size, tested in this order: a layer over the instructions, the number of data bytes, a layer over the data, the start
 abbrev pub refusal_of : Setup → ℕ → Option ℕ
 refusal_of s size =
-    if not (layers_fit (layers s.instructions)) then Some 2
-    else if not (flat_fits s.data_size) then Some 1
-    else if not (layers_fit (layers s.data_memory)) then Some 2
-    else if not (load_fits 0 size s.start) then Some 3
+    if not (layers_fit (layers s.instructions)) then Some (number LongWait)
+    else if not (flat_fits s.data_size) then Some (number FlatSize)
+    else if not (layers_fit (layers s.data_memory)) then Some (number LongWait)
+    else if not (load_fits 0 size s.start) then Some (number BadStart)
     else None
 
 -- the data memory of a set-up whose two checks pass
@@ -117,7 +118,7 @@ DataMade s stack =
 -- the number of the first check that does not
 abbrev pub DataUnfit : Setup → ℕ → Type 0
 DataUnfit s why =
-    (why ≡ (if flat_fits s.data_size then 2 else 1))
+    (why ≡ (if flat_fits s.data_size then number LongWait else number FlatSize))
     × (flat_fits s.data_size && layers_fit (layers s.data_memory) ≡ false)
 
 -- The data memory, or its refusal. There may be no memory only where a flat memory can have so many bytes.

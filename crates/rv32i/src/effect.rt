@@ -19,7 +19,7 @@ pub struct Effect {
     pub result: u32,
     /// The address of the next instruction.
     pub next: u32,
-    /// What became of a branch.
+    /// The outcome of a branch.
     pub outcome: Option<Outcome>,
 }
 

@@ -32,6 +32,6 @@ j_immediate f3 r1 r2 f7 = f7 / 2 ^ 6 * 2 ^ 20 + r1 * 2 ^ 15 + f3 * 2 ^ 12 + r2 %
 abbrev pub jump_high : ℕ → ℕ
 jump_high n = n / 2 ^ 20 * 2 ^ 6 + n / 2 ^ 5 % 2 ^ 6
 
--- U: bits 31 to 12 in funct7, rs2, rs1 and funct3, and imm_11_0 zeros
+-- U: bits 31 to 12 in funct7, rs2, rs1 and funct3, and twelve zeros
 abbrev pub u_immediate : ℕ → ℕ → ℕ → ℕ → ℕ
 u_immediate f3 r1 r2 f7 = f7 * 2 ^ 25 + r2 * 2 ^ 20 + r1 * 2 ^ 15 + f3 * 2 ^ 12

@@ -86,7 +86,7 @@ const ROWS: [Row; 40] = rows! {
     Operation::Ebreak, BY_ALL, 0x0010_0073;
 };
 
-/// The operation of the first row that the word fits.
+/// The operation of the first row that the word matches.
 fn first_fit(rows: &[Row], word: u32) -> Option<Operation>
     ensures { result ≡ first_in rows.now word }
 {

@@ -85,7 +85,7 @@ pub(crate) fn immediate_j(word: u32) -> i32
         .signed()
 }
 
-/// The U immediate: bits 31 to 12, and imm_11_0 zeros.
+/// The U immediate: bits 31 to 12, and twelve zeros.
 pub(crate) fn immediate_u(word: u32) -> u32
     ensures { result ≡ u_immediate (funct3_of word) (rs1_of word) (rs2_of word) (funct7_of word) }
 {

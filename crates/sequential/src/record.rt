@@ -16,7 +16,7 @@ pub struct Retired {
     pub value: u32,
 }
 
-/// An instruction that retired, and what became of it if it is a conditional branch.
+/// An instruction that retired, and its outcome if it is a conditional branch.
 #[derive(Clone, Copy, PartialEq, Eq, Debug)]
 pub struct Retirement {
     pub retired: Retired,

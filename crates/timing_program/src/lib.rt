@@ -30,7 +30,7 @@ fn run(rt: &HostRuntime, setup: &Setup) -> anyhow::Result<Ending> {
 }
 
 /// Does what the words ask for.
-fn ending_of(rt: &HostRuntime, words: &[String]) -> anyhow::Result<Ending> {
+fn ending_for(rt: &HostRuntime, words: &[String]) -> anyhow::Result<Ending> {
     match command_of(words) {
         Ok(Command::Run(setup)) => run(rt, &setup),
         Ok(Command::Help) => Ok(help_ending(rt.alloc())?),
@@ -42,6 +42,6 @@ fn ending_of(rt: &HostRuntime, words: &[String]) -> anyhow::Result<Ending> {
 /// and after a fault in the arguments.
 pub fn timing(rt: &HostRuntime) -> anyhow::Result<ExitCode> {
     let words = words_of(rt)?;
-    let ending = ending_of(rt, words.as_slice())?;
+    let ending = ending_for(rt, words.as_slice())?;
     Ok(ending.print(rt)?)
 }

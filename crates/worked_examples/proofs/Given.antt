@@ -12,7 +12,7 @@ use Rattle.predictor.specs.Tables.{counters_after}
 use Rattle.rv32i_words.specs.Words.{decoded}
 use Rattle.worked_examples.specs.Examples.{words, instructions, counts, counts_of, taken, longest, TableGiven}
 
--- a counter that is counted has the stepped value, and the counters stay as many
+-- a counter that is counted has the value after it, and the counters stay as many
 stepped_at : (values : List ℕ) (k v : ℕ) → k < length values → get_or values k 0 ≡ v → get_or (values_after values k true) k 0 ≡ value_after v true
 stepped_at values k v h e = get_or-set_same values k (value_after (get_or values k 0) true) 0 h ∙ ap (λ (n : ℕ). value_after n true) e
 

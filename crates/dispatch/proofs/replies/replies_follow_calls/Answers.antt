@@ -1,5 +1,5 @@
-use Rattle.dispatch.proofs.StackReplays.{stack_replays}
+use Rattle.dispatch.proofs.StackReplays.{layer_replays, stack_replays}
 use Rattle.dispatch.proofs.replies.replies_follow_calls.Goals as goal
 
 pub returns : goal.returns
-returns c = stack_replays
+returns g c = record { layer = layer_replays g.met.M.Memory.obeys; stack = stack_replays }

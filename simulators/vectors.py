@@ -121,5 +121,7 @@ def make_words():
 
 
 PARTS = {"words": make_words, "images": make_images}
-for part in sys.argv[1:] or PARTS:
-    PARTS[part]()
+
+if __name__ == "__main__":
+    for part in sys.argv[1:] or PARTS:
+        PARTS[part]()

@@ -1,9 +1,9 @@
 -- How the latches stand to the sequential machine: along its run, oldest latch first, until the chain breaks. Assumes nothing.
 use Rattle.std.proofs.Common.{◌≡◌, ℕ, cond, eqb, length, Ok, Err, Result}
 use Rattle.rv32i.specs.declared.cause.Cause.{Cause}
-use Rattle.rv32i.specs.declared.cause.Cause.TheVariants.{FetchOutside}
+use Rattle.rv32i.specs.declared.cause.Cause.TheVariants.{InstructionAccessFault}
 use Rattle.rv32i.specs.declared.registers.Registers.{Registers}
-use Rattle.sequential.specs.Sequential.{State, World, then}
+use Rattle.sequential.specs.Sequential.{State, World, and_then}
 use Rattle.sequential.specs.declared.record.Stop.{Stop}
 use Rattle.clocking.specs.declared.latch.Fetched.{Fetched}
 use Rattle.clocking.specs.declared.latch.Decoded.{Decoded}
@@ -14,7 +14,7 @@ use Rattle.clocking.specs.declared.latch.Latch.TheVariants.{Empty, Faulting, Ful
 use Rattle.clocking.specs.declared.latch.Latches.{Latches}
 use Rattle.clocking.proofs.Partial.{fetched_at, decoded_at, executed_at, completed_at, after_at}
 
--- where the chain has come to: a state, or it is broken
+-- what the chain reaches: a state, or it is broken
 abbrev pub Reach : Type 0
 Reach = Result State Cause
 
@@ -33,7 +33,7 @@ pub faults_on : {T U : Type 0} (h : State → Result T Cause) (k : State → Res
 faults_on h k same (Err z) stop i = tt
 faults_on h k same (Ok s) stop i = (i.0, same s stop.cause i.1)
 
--- the latch holds what the state's instruction comes to; past a break nothing is said
+-- the latch holds what the stage before it makes of the state's instruction; past a break nothing is said
 abbrev pub Holds : {T : Type 0} → (State → T → Result T Cause) → (State → Result T Cause) → Reach → Latch T → Type 0
 Holds f h r (Faulting stop) = Faults h r stop
 Holds f h (Ok s) (Full x) = Ok x ≡ f s x
@@ -42,8 +42,8 @@ Holds f h r l = Unit {0}
 -- where the chain goes behind the latch
 abbrev pub behind : {T : Type 0} → (T → State → Reach) → Reach → Latch T → Reach
 behind next r Empty = r
-behind next r (Faulting stop) = then r (λ s. Err stop.cause)
-behind next r (Full x) = then r (next x)
+behind next r (Faulting stop) = and_then r (λ s. Err stop.cause)
+behind next r (Full x) = and_then r (next x)
 
 -- fetching goes on at the state reached
 abbrev pub Leads : ℕ → Reach → Type 0
@@ -52,12 +52,12 @@ Leads f (Ok s) = f ≡ s.address
 
 -- the bytes of the state reached, or of s where there is none
 abbrev pub bytes_at : State → Reach → ℕ → ℕ
-bytes_at s (Err c) = s.bytes
-bytes_at s (Ok t) = t.bytes
+bytes_at s (Err c) = s.data_memory
+bytes_at s (Ok t) = t.data_memory
 
 -- the chain goes on where the guess is right, else it breaks; which cause a break has does not matter
 abbrev pub guessed : ℕ → State → Reach
-guessed g s = cond (eqb s.address g) (Ok s) (Err FetchOutside)
+guessed g s = cond (eqb s.address g) (Ok s) (Err InstructionAccessFault)
 
 -- W does not stop the machine
 abbrev pub Flows : Latch Completed → Type 0
@@ -78,7 +78,7 @@ module _ (world : World) where
   HoldsW = Holds (λ s x. completed_at world s) (completed_at world)
 
   abbrev pub on_if : ℕ → State → Reach
-  on_if g s = then (after_at world s) (guessed g)
+  on_if g s = and_then (after_at world s) (guessed g)
 
   abbrev pub behindD : Reach → Latch Fetched → Reach
   behindD = behind (λ x. on_if x.guess)

@@ -2,24 +2,23 @@
 use Rattle.std.proofs.Common.{◌≡◌, ℕ, Some, Ok, Err, Option, Result, sym, refl, ap, ◌∙◌}
 use Rattle.rv32i.specs.declared.cause.Cause.{Cause}
 use Rattle.rv32i.specs.declared.register.Register.{Register}
-use Rattle.sequential.specs.Sequential.{State, World, then}
+use Rattle.sequential.specs.Sequential.{State, World, and_then, fetch}
 use Rattle.clocking.specs.declared.latch.Fetched.{Fetched}
 use Rattle.clocking.specs.declared.latch.Decoded.{Decoded}
 use Rattle.clocking.specs.declared.latch.Latch.{Latch}
 use Rattle.clocking.specs.declared.latch.Latch.TheVariants.{Empty, Faulting, Full}
 use Rattle.clocking.specs.declared.stage.Flow.{Flow}
-use Rattle.clocking.specs.declared.stage.Flow.TheVariants.{Moves, Stays, RollsBack}
+use Rattle.clocking.specs.declared.stage.Flow.TheVariants.{Moves, Stalls, RollsBack}
 use Rattle.rv32i.proofs.Laws.{first_not_x0, second_not_x0}
 use Rattle.rv32i.specs.Effects.{first_source, second_source}
 use Rattle.rv32i_words.specs.Issues.{issued}
 use Rattle.rv32i.specs.Registers.{operand}
 use Rattle.rv32i.specs.declared.instruction.Instruction.{Instruction}
-use Rattle.sequential.specs.Sequential.{fetch}
-use Rattle.clocking.specs.Stages.{DecodeOut, source, with_operands, decode_word, decode_moves, decode_stays, decode_stage}
+use Rattle.clocking.specs.Decode.{DecodeOut, source, with_operands, decode_word, decode_moves, decode_stalls, decode_stage}
 use Rattle.clocking.proofs.Chain.{Reach, faults_on, HoldsD, HoldsX, behindD, behindX, on_if}
-use Rattle.clocking.proofs.Execute.{Turned, Onward}
+use Rattle.clocking.proofs.Execute.{Redirects, Onward}
 use Rattle.clocking.proofs.Forward.{KnownRead}
-use Rattle.clocking.proofs.Partial.{operated, fetched_at, decoded_at, executed_at, done_at, after_at}
+use Rattle.clocking.proofs.Partial.{with_operands_at, fetched_at, decoded_at, executed_at, done_at, after_at}
 
 abbrev pub SourcedRead : Flow → (Register → Option ℕ) → Reach → Type 0
 SourcedRead Moves f r = KnownRead f r
@@ -27,13 +26,13 @@ SourcedRead flow f r = Unit {0}
 
 module _ (world : World) where
   abbrev fetch_at : State → Result ℕ Cause
-  fetch_at s = fetch world.text_size world.text s.address
+  fetch_at s = fetch world.instructions_size world.instructions s.address
 
   -- what the decode stage leaves: D has moved on, or stays, or is dropped
   abbrev pub Rests : Flow → Option ℕ → Reach → Latch Fetched → Reach → Type 0
   Rests Moves u r d q = q ≡ behindD world r d
-  Rests Stays u r d q = q ≡ r
-  Rests RollsBack u r d q = Turned u q
+  Rests Stalls u r d q = q ≡ r
+  Rests RollsBack u r d q = Redirects u q
 
   pub record DecodeKept (q r : Reach) (d : Latch Fetched) (u : Option ℕ) (o : DecodeOut) : Type 0 where
     pub x : HoldsX world q o.x
@@ -45,7 +44,7 @@ module _ (world : World) where
     pub here : f.address ≡ s.address
     pub issues : f.issued ≡ issued f.word
 
-  word_by : (o : Result ℕ Cause) (f : Fetched) (a : ℕ) → Ok f ≡ then o (λ w. Ok (record { address = a; word = w; issued = issued w; guess = f.guess }))
+  word_by : (o : Result ℕ Cause) (f : Fetched) (a : ℕ) → Ok f ≡ and_then o (λ w. Ok (record { address = a; word = w; issued = issued w; guess = f.guess }))
       → (o ≡ Ok f.word) × (f.address ≡ a) × (f.issued ≡ issued f.word)
   word_by (Err c) f a e = (cc, cc, cc)
   word_by (Ok w) f a e =
@@ -56,11 +55,11 @@ module _ (world : World) where
   unfolding fetched_at
   word_of s f e = let z = word_by (fetch_at s) f s.address e in record { fetches = z.0; here = z.1; issues = z.2 }
 
-  decoded_so : (s : State) (f : Fetched) → WordOf s f → (g : ℕ) → decoded_at world s g ≡ then f.issued (λ i. Ok (operated s f.word g i))
+  decoded_so : (s : State) (f : Fetched) → WordOf s f → (g : ℕ) → decoded_at world s g ≡ and_then f.issued (λ i. Ok (with_operands_at s f.word g i))
   unfolding decoded_at
   decoded_so s f z g = rw (z.fetches, z.issues)
 
-  faulting_by : (o : Result ℕ Cause) (c : Cause) (k : ℕ → Fetched) (h : ℕ → Result Decoded Cause) → Err c ≡ then o (λ w. Ok (k w)) → Err c ≡ then o h
+  faulting_by : (o : Result ℕ Cause) (c : Cause) (k : ℕ → Fetched) (h : ℕ → Result Decoded Cause) → Err c ≡ and_then o (λ w. Ok (k w)) → Err c ≡ and_then o h
   faulting_by (Err z) c k h e = cc
   faulting_by (Ok w) c k h e = cc
 
@@ -104,12 +103,12 @@ module _ (world : World) where
     moves_kept (Err c) (Full f) h k = by_broken c f f.issued
     moves_kept (Ok s) (Full f) h k = by_word s f (word_of s f h) k f.issued refl
 
-    stays_kept : (r : Reach) (x : Latch Decoded) (d : Latch Fetched) → HoldsX world r x → DecodeKept r (behindX world r x) d u (decode_stays x d)
+    stays_kept : (r : Reach) (x : Latch Decoded) (d : Latch Fetched) → HoldsX world r x → DecodeKept r (behindX world r x) d u (decode_stalls x d)
     stays_kept r x Empty h = record { x = h; rests = refl }
     stays_kept r x d h = record { x = h; rests = refl }
 
     pub decode_kept : (flow : Flow) (r q : Reach) (x : Latch Decoded) (d : Latch Fetched) → HoldsX world r x → HoldsD world (behindX world r x) d → Onward world flow u r x q
         → SourcedRead flow reads (behindX world r x) → DecodeKept q (behindX world r x) d u (decode_stage reads x d flow)
     decode_kept Moves r q x d hx hd o k = rw o (moves_kept (behindX world r x) d hd k)
-    decode_kept Stays r q x d hx hd o k = rw o (stays_kept r x d hx)
+    decode_kept Stalls r q x d hx hd o k = rw o (stays_kept r x d hx)
     decode_kept RollsBack r q x d hx hd o k = record { x = tt; rests = o }

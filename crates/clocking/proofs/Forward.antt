@@ -6,7 +6,7 @@ use Rattle.base.specs.declared.bus.Request.TheVariants.{Read, Write}
 use Rattle.rv32i.proofs.Laws.{NotX0}
 use Rattle.rv32i.specs.Effects.{load_width, store_width, word_address, lanes_of, request}
 use Rattle.rv32i_words.specs.Issues.{issued}
-use Rattle.rv32i.specs.declared.cause.Cause.TheVariants.{LoadMisaligned, LoadOutside, StoreMisaligned, StoreOutside}
+use Rattle.rv32i.specs.declared.cause.Cause.TheVariants.{LoadMisaligned, LoadAccessFault, StoreMisaligned, StoreAccessFault}
 use Rattle.rv32i.specs.Registers.{operand, written}
 use Rattle.rv32i.specs.declared.cause.Cause.{Cause}
 use Rattle.rv32i.specs.declared.effect.Access.{Access}
@@ -15,13 +15,15 @@ use Rattle.rv32i.specs.declared.effect.Effect.{Effect}
 use Rattle.rv32i.specs.declared.instruction.Instruction.{Instruction}
 use Rattle.rv32i.specs.declared.register.Register.{Register}
 use Rattle.rv32i.specs.declared.registers.Registers.{Registers}
-use Rattle.sequential.specs.Sequential.{State, World, then, fetch}
-use Rattle.clocking.specs.Stages.{complete, ran, execute, gives, early, or_else, value_of, source}
+use Rattle.sequential.specs.Sequential.{State, World, and_then, fetch}
+use Rattle.clocking.specs.Data.{complete}
+use Rattle.clocking.specs.Execute.{into_m, execute}
+use Rattle.clocking.specs.Decode.{gives, early_value, or_else, value_of, source}
 use Rattle.clocking.specs.declared.latch.Decoded.{Decoded}
 use Rattle.clocking.specs.declared.latch.Executed.{Executed}
 use Rattle.clocking.specs.declared.latch.Completed.{Completed}
 use Rattle.clocking.proofs.Chain.{Reach}
-use Rattle.clocking.proofs.Partial.{operated, Done, settled_by, settle, moved, decoded_at, executed_at, done_at, completed_at, after_at}
+use Rattle.clocking.proofs.Partial.{with_operands_at, Done, settle_by, settle, state_after, decoded_at, executed_at, done_at, completed_at, after_at}
 
 -- ---- registers
 
@@ -103,7 +105,7 @@ Pairs s o r = ⊥
 pub record Follows (s : State) (e : Executed) (t : State) : Type 0 where
   pub value : ℕ
   pub registers : t.registers ≡ written s.registers e.rd value
-  pub plain : (v : ℕ) → early e.access e.result ≡ Some v → v ≡ value
+  pub plain : (v : ℕ) → early_value e.access e.result ≡ Some v → v ≡ value
   pub address : t.address ≡ e.next
 
 abbrev pub Runs : State → Result Executed Cause → Reach → Type 0
@@ -111,15 +113,15 @@ Runs s (Ok e) (Ok t) = Follows s e t
 Runs s (Err c) (Ok t) = ⊥
 Runs s o r = Unit {0}
 
-pairs_done : (s : State) (o : Result Done Cause) → Pairs s (then o (λ d. Ok (complete d.run d.value))) (then o (λ d. Ok (moved s d)))
+pairs_done : (s : State) (o : Result Done Cause) → Pairs s (and_then o (λ d. Ok (complete d.run d.value))) (and_then o (λ d. Ok (state_after s d)))
 pairs_done s (Err c) = refl
 pairs_done s (Ok d) = refl
 
 -- only a load is answered a word
 abbrev Plain : Option Access → ℕ → Result (Option Request) Cause → Type 0
 Plain how x (Err c) = Unit {0}
-Plain how x (Ok (Some (Read a))) = (v w : ℕ) → early how x ≡ Some v → v ≡ w
-Plain how x (Ok q) = (v : ℕ) → early how x ≡ Some v → v ≡ x
+Plain how x (Ok (Some (Read a))) = (v w : ℕ) → early_value how x ≡ Some v → v ≡ w
+Plain how x (Ok q) = (v : ℕ) → early_value how x ≡ Some v → v ≡ x
 
 plain_by : (how : Option Access) (x : ℕ) (q : Request) (misaligned outside : Cause) (b d : Bool) → Plain how x (Ok (Some q)) → Plain how x (cond b (cond d (Ok (Some q)) (Err outside)) (Err misaligned))
 plain_by how x q misaligned outside true true h = h
@@ -131,34 +133,34 @@ plain_so size None x b = λ v h. cc
 plain_so size (Some (Load k)) x b =
     let q : Request = Read (word_address x) in
     let h : Plain (Some (Load k)) x (Ok (Some q)) = λ v w h. cc in
-    plain_by (Some (Load k)) x q LoadMisaligned LoadOutside (eqb (x % load_width k) 0) (ltb x size) h
+    plain_by (Some (Load k)) x q LoadMisaligned LoadAccessFault (eqb (x % load_width k) 0) (ltb x size) h
 plain_so size (Some (Store k)) x b =
     let q : Request = Write (word_address x) (b * 2 ^ (8 * (x % 4)) % 2 ^ 32) (lanes_of k x) in
     let h : Plain (Some (Store k)) x (Ok (Some q)) = λ v h. cc in
-    plain_by (Some (Store k)) x q StoreMisaligned StoreOutside (eqb (x % store_width k) 0) (ltb x size) h
+    plain_by (Some (Store k)) x q StoreMisaligned StoreAccessFault (eqb (x % store_width k) 0) (ltb x size) h
 
-runs_by : (s : State) (e : Executed) (q : Result (Option Request) Cause) → Plain e.access e.result q → Runs s (Ok e) (then (settled_by s.bytes e q) (λ d. Ok (moved s d)))
+runs_by : (s : State) (e : Executed) (q : Result (Option Request) Cause) → Plain e.access e.result q → Runs s (Ok e) (and_then (settle_by s.data_memory e q) (λ d. Ok (state_after s d)))
 runs_by s e (Err c) h = tt
 runs_by s e (Ok (Some (Read a))) h = record { value = _; registers = refl; plain = λ v. h v _; address = refl }
 runs_by s e (Ok (Some (Write a w l))) h = record { value = e.result; registers = refl; plain = h; address = refl }
 runs_by s e (Ok None) h = record { value = e.result; registers = refl; plain = h; address = refl }
 
-runs_out : (size : ℕ) (s : State) (o : Result Executed Cause) → Runs s o (then (then o (settle size s.bytes)) (λ d. Ok (moved s d)))
+runs_out : (size : ℕ) (s : State) (o : Result Executed Cause) → Runs s o (and_then (and_then o (settle size s.data_memory)) (λ d. Ok (state_after s d)))
 unfolding settle
 runs_out size s (Err c) = tt
 runs_out size s (Ok e) = runs_by s e (request size e.access e.result e.b) (plain_so size e.access e.result e.b)
 
 -- the guess that an instruction carries does not bear on what it executes to
-ran_same : (s : State) (w g : ℕ) (i : Instruction) (o : Result Effect Cause) → then o (λ e. Ok (ran (operated s w g i) e)) ≡ then o (λ e. Ok (ran (operated s w 0 i) e))
+ran_same : (s : State) (w g : ℕ) (i : Instruction) (o : Result Effect Cause) → and_then o (λ e. Ok (into_m (with_operands_at s w g i) e)) ≡ and_then o (λ e. Ok (into_m (with_operands_at s w 0 i) e))
 ran_same s w g i (Err c) = refl
 ran_same s w g i (Ok e) = refl
 
-executes_by : (s : State) (w g : ℕ) (o : Result Instruction Cause) → then (then o (λ i. Ok (operated s w g i))) execute ≡ then (then o (λ i. Ok (operated s w 0 i))) execute
+executes_by : (s : State) (w g : ℕ) (o : Result Instruction Cause) → and_then (and_then o (λ i. Ok (with_operands_at s w g i))) execute ≡ and_then (and_then o (λ i. Ok (with_operands_at s w 0 i))) execute
 executes_by s w g (Err c) = refl
 executes_by s w g (Ok i) = ran_same s w g i _
 
 executes_out : (s : State) (g : ℕ) (o : Result ℕ Cause)
-    → then (then o (λ w. then (issued w) (λ i. Ok (operated s w g i)))) execute ≡ then (then o (λ w. then (issued w) (λ i. Ok (operated s w 0 i)))) execute
+    → and_then (and_then o (λ w. and_then (issued w) (λ i. Ok (with_operands_at s w g i)))) execute ≡ and_then (and_then o (λ w. and_then (issued w) (λ i. Ok (with_operands_at s w 0 i)))) execute
 executes_out s g (Err c) = refl
 executes_out s g (Ok w) = executes_by s w g (issued w)
 
@@ -171,26 +173,26 @@ abbrev pub At : State → Result Executed Cause → Type 0
 At s (Err c) = Unit {0}
 At s (Ok e) = e.address ≡ s.address
 
-at_ran : (s : State) (d : Decoded) → d.address ≡ s.address → (o : Result Effect Cause) → At s (then o (λ e. Ok (ran d e)))
+at_ran : (s : State) (d : Decoded) → d.address ≡ s.address → (o : Result Effect Cause) → At s (and_then o (λ e. Ok (into_m d e)))
 at_ran s d h (Err c) = tt
 at_ran s d h (Ok e) = h
 
-at_then : (s : State) (o : Result Decoded Cause) → AtX s o → At s (then o execute)
+at_then : (s : State) (o : Result Decoded Cause) → AtX s o → At s (and_then o execute)
 at_then s (Err c) h = tt
 at_then s (Ok d) h = at_ran s d h _
 
-at_by : (s : State) (w g : ℕ) (o : Result Instruction Cause) → AtX s (then o (λ i. Ok (operated s w g i)))
+at_by : (s : State) (w g : ℕ) (o : Result Instruction Cause) → AtX s (and_then o (λ i. Ok (with_operands_at s w g i)))
 at_by s w g (Err c) = tt
 at_by s w g (Ok i) = refl
 
-at_out : (s : State) (g : ℕ) (o : Result ℕ Cause) → AtX s (then o (λ w. then (issued w) (λ i. Ok (operated s w g i))))
+at_out : (s : State) (g : ℕ) (o : Result ℕ Cause) → AtX s (and_then o (λ w. and_then (issued w) (λ i. Ok (with_operands_at s w g i))))
 at_out s g (Err c) = tt
 at_out s g (Ok w) = at_by s w g (issued w)
 
 module _ (world : World) where
   pub at_x : (s : State) (g : ℕ) → AtX s (decoded_at world s g)
   unfolding decoded_at
-  at_x s g = at_out s g (fetch world.text_size world.text s.address)
+  at_x s g = at_out s g (fetch world.instructions_size world.instructions s.address)
 
   pub at : (s : State) → At s (executed_at world s)
   unfolding executed_at
@@ -204,9 +206,9 @@ module _ (world : World) where
   unfolding after_at done_at
   runs s = runs_out world.data_size s (executed_at world s)
 
-  pub executes : (s : State) (g : ℕ) → then (decoded_at world s g) execute ≡ executed_at world s
+  pub executes : (s : State) (g : ℕ) → and_then (decoded_at world s g) execute ≡ executed_at world s
   unfolding executed_at decoded_at
-  executes s g = executes_out s g (fetch world.text_size world.text s.address)
+  executes s g = executes_out s g (fetch world.instructions_size world.instructions s.address)
 
   -- an instruction that does not execute leads nowhere
   pub ends : (s : State) (c : Cause) → Err c ≡ executed_at world s → Err c ≡ after_at world s

@@ -10,91 +10,95 @@ use Rattle.rv32i.specs.declared.cause.Cause.{Cause}
 use Rattle.rv32i.specs.declared.effect.Effect.{Effect}
 use Rattle.rv32i.specs.declared.instruction.Instruction.{Instruction}
 use Rattle.rv32i.specs.declared.register.Register.{Register}
-use Rattle.sequential.specs.Sequential.{then}
-use Rattle.clocking.specs.Counting.{is_wait, occupied, has_fetched, if_rolled, one_if}
+use Rattle.sequential.specs.Sequential.{and_then}
+use Rattle.clocking.specs.Counting.{is_wait, occupancy, has_fetched, if_rolled, one_if}
 use Rattle.clocking.specs.Laws.{at_w, at_m, at_x, at_d, effect_of}
-use Rattle.clocking.specs.Stages.{ExecuteOut, DecodeOut, sent, data_request, told, data_stage, ran, turned, checked, execute_stage, source, with_operands, decode_word, decode_stage, fetching, fetches_on, fetch_stage}
+use Rattle.clocking.specs.Ports.{bus_request}
+use Rattle.clocking.specs.Data.{data_request, use_memory, data_stage}
+use Rattle.clocking.specs.Execute.{ExecuteOut, into_m, redirect_unless, check_guess, execute_stage}
+use Rattle.clocking.specs.Decode.{DecodeOut, source, with_operands, decode_word, decode_stage}
+use Rattle.clocking.specs.Fetch.{fetch_request, fetches_on, fetch_stage}
 use Rattle.clocking.specs.declared.latch.Fetched.{Fetched}
 use Rattle.clocking.specs.declared.latch.Decoded.{Decoded}
 use Rattle.clocking.specs.declared.latch.Executed.{Executed}
 use Rattle.clocking.specs.declared.latch.Latch.{Latch}
 use Rattle.clocking.specs.declared.latch.Latch.TheVariants.{Empty, Faulting, Full}
 use Rattle.clocking.specs.declared.stage.Flow.{Flow}
-use Rattle.clocking.specs.declared.stage.Flow.TheVariants.{Moves, Stays, RollsBack}
+use Rattle.clocking.specs.declared.stage.Flow.TheVariants.{Moves, Stalls, RollsBack}
 use Rattle.clocking.proofs.LawsFlow.{Heard, data_flow, execute_flow}
 
 -- what stays before a stage, and what a rollback leaves
 abbrev pub staying : Flow → List ℕ → List ℕ
-staying Stays l = l
+staying Stalls l = l
 staying flow l = []
 
 abbrev pub left : Flow → List ℕ → List ℕ
 left RollsBack l = []
 left flow l = l
 
-told_line : (e : Executed) (o : Result (Option Request) Cause) (r : Option Reply) → at_w (told e o r).w ++ staying (told e o r).flow (at_m (Full e)) ≡ at_m (Full e)
-told_line e (Ok q) (Some (Ok (Word w))) = refl
-told_line e (Ok q) (Some (Err Wait)) = refl
-told_line e o r = refl
+memory_line : (e : Executed) (o : Result (Option Request) Cause) (r : Option Reply) → at_w (use_memory e o r).w ++ staying (use_memory e o r).flow (at_m (Full e)) ≡ at_m (Full e)
+memory_line e (Ok q) (Some (Ok (Word w))) = refl
+memory_line e (Ok q) (Some (Err Wait)) = refl
+memory_line e o r = refl
 
 pub data_line : (m : Latch Executed) (o : Result (Option Request) Cause) (r : Option Reply) → at_w (data_stage m o r).w ++ staying (data_stage m o r).flow (at_m m) ≡ at_m m
-data_line (Full e) o r = told_line e o r
+data_line (Full e) o r = memory_line e o r
 data_line m o r = refl
 
-told_w : (e : Executed) (o : Result (Option Request) Cause) (r : Option Reply) → Heard (sent o) r → at_w (told e o r).w ≡ cond (is_wait r) [] (at_m (Full e))
-told_w e (Err c) None h = refl
-told_w e (Err c) (Some r) h = absurd h
-told_w e (Ok None) None h = refl
-told_w e (Ok None) (Some r) h = absurd h
-told_w e (Ok (Some q)) None h = absurd h
-told_w e (Ok (Some q)) (Some (Ok (Word w))) h = refl
-told_w e (Ok (Some q)) (Some (Ok Done)) h = refl
-told_w e (Ok (Some q)) (Some (Err Wait)) h = refl
-told_w e (Ok (Some q)) (Some (Err Outside)) h = refl
+memory_w : (e : Executed) (o : Result (Option Request) Cause) (r : Option Reply) → Heard (bus_request o) r → at_w (use_memory e o r).w ≡ cond (is_wait r) [] (at_m (Full e))
+memory_w e (Err c) None h = refl
+memory_w e (Err c) (Some r) h = absurd h
+memory_w e (Ok None) None h = refl
+memory_w e (Ok None) (Some r) h = absurd h
+memory_w e (Ok (Some q)) None h = absurd h
+memory_w e (Ok (Some q)) (Some (Ok (Word w))) h = refl
+memory_w e (Ok (Some q)) (Some (Ok Done)) h = refl
+memory_w e (Ok (Some q)) (Some (Err Wait)) h = refl
+memory_w e (Ok (Some q)) (Some (Err Outside)) h = refl
 
 -- M goes to W unless it waits
-pub goes_to_w : (size : ℕ) (m : Latch Executed) (r : Option Reply) → Heard (sent (data_request size m)) r
+pub goes_to_w : (size : ℕ) (m : Latch Executed) (r : Option Reply) → Heard (bus_request (data_request size m)) r
     → at_w (data_stage m (data_request size m) r).w ≡ cond (is_wait r) [] (at_m m)
 goes_to_w size Empty None h = refl
 goes_to_w size Empty (Some r) h = absurd h
 goes_to_w size (Faulting stop) None h = refl
 goes_to_w size (Faulting stop) (Some r) h = absurd h
-goes_to_w size (Full e) r h = told_w e (request size e.access e.result e.b) r h
+goes_to_w size (Full e) r h = memory_w e (request size e.access e.result e.b) r h
 
 abbrev Executes : Flow → Latch Executed → Latch Decoded → ExecuteOut → Type 0
 Executes flow m x o = at_m o.m ++ staying o.flow (at_x x) ≡ staying flow (at_m m) ++ left flow (at_x x)
 
-turned_line : (m : Latch Executed) (d : Decoded) (e : Effect) (b : Bool) → Executes Moves m (Full d) (turned (ran d e) b)
-turned_line m d e true = refl
-turned_line m d e false = refl
+redirect_line : (m : Latch Executed) (d : Decoded) (e : Effect) (b : Bool) → Executes Moves m (Full d) (redirect_unless (into_m d e) b)
+redirect_line m d e true = refl
+redirect_line m d e false = refl
 
-checked_line : (m : Latch Executed) (d : Decoded) (o : Result Effect Cause) → Executes Moves m (Full d) (checked d.address d.guess (then o (λ e. Ok (ran d e))))
-checked_line m d (Err c) = refl
-checked_line m d (Ok e) = turned_line m d e (eqb e.next d.guess)
+guess_line : (m : Latch Executed) (d : Decoded) (o : Result Effect Cause) → Executes Moves m (Full d) (check_guess d.address d.guess (and_then o (λ e. Ok (into_m d e))))
+guess_line m d (Err c) = refl
+guess_line m d (Ok e) = redirect_line m d e (eqb e.next d.guess)
 
 pub execute_line : (flow : Flow) (m : Latch Executed) (x : Latch Decoded) → Executes flow m x (execute_stage m x flow)
 execute_line RollsBack m x = refl
-execute_line Stays m Empty = refl
-execute_line Stays m (Faulting stop) = refl
-execute_line Stays m (Full d) = refl
+execute_line Stalls m Empty = refl
+execute_line Stalls m (Faulting stop) = refl
+execute_line Stalls m (Full d) = refl
 execute_line Moves m Empty = refl
 execute_line Moves m (Faulting stop) = refl
-execute_line Moves m (Full d) = checked_line m d (effect_of d)
+execute_line Moves m (Full d) = guess_line m d (effect_of d)
 
-turned_m : (d : Decoded) (e : Effect) (b : Bool) → at_m (turned (ran d e) b).m ≡ at_x (Full d)
-turned_m d e true = refl
-turned_m d e false = refl
+redirect_m : (d : Decoded) (e : Effect) (b : Bool) → at_m (redirect_unless (into_m d e) b).m ≡ at_x (Full d)
+redirect_m d e true = refl
+redirect_m d e false = refl
 
-checked_m : (d : Decoded) (o : Result Effect Cause) → at_m (checked d.address d.guess (then o (λ e. Ok (ran d e)))).m ≡ at_x (Full d)
-checked_m d (Err c) = refl
-checked_m d (Ok e) = turned_m d e (eqb e.next d.guess)
+guess_m : (d : Decoded) (o : Result Effect Cause) → at_m (check_guess d.address d.guess (and_then o (λ e. Ok (into_m d e)))).m ≡ at_x (Full d)
+guess_m d (Err c) = refl
+guess_m d (Ok e) = redirect_m d e (eqb e.next d.guess)
 
 moves_to_m : (m : Latch Executed) (x : Latch Decoded) → at_m (execute_stage m x Moves).m ≡ at_x x
 moves_to_m m Empty = refl
 moves_to_m m (Faulting stop) = refl
-moves_to_m m (Full d) = checked_m d (effect_of d)
+moves_to_m m (Full d) = guess_m d (effect_of d)
 
-waits_in_m : (m : Latch Executed) (x : Latch Decoded) → at_m (execute_stage m x Stays).m ≡ at_m m
+waits_in_m : (m : Latch Executed) (x : Latch Decoded) → at_m (execute_stage m x Stalls).m ≡ at_m m
 waits_in_m m Empty = refl
 waits_in_m m (Faulting stop) = refl
 waits_in_m m (Full d) = refl
@@ -121,9 +125,9 @@ word_line h x f (Ok i) = operands_line x f i (source h (first_source i)) (source
 
 pub decode_line : (h : Register → Option ℕ) (flow : Flow) (x : Latch Decoded) (d : Latch Fetched) → Decodes flow x d (decode_stage h x d flow)
 decode_line h RollsBack x d = refl
-decode_line h Stays x Empty = refl
-decode_line h Stays x (Faulting stop) = refl
-decode_line h Stays x (Full f) = refl
+decode_line h Stalls x Empty = refl
+decode_line h Stalls x (Faulting stop) = refl
+decode_line h Stalls x (Full f) = refl
 decode_line h Moves x Empty = refl
 decode_line h Moves x (Faulting stop) = refl
 decode_line h Moves x (Full f) = word_line h x f f.issued
@@ -151,11 +155,11 @@ on_line f (Ok None) x h = refl
 on_line f (Ok (Some q)) None h = refl
 on_line f (Ok (Some q)) (Some x) h = ap (λ a. a ∷ []) h
 
-pub fetch_line : (text f : ℕ) (d : Latch Fetched) (flow : Flow) (x : Option Fetched) (u : Option ℕ) → From f x
-    → at_d (fetch_stage f d flow (fetching text f flow) x u).d ≡ staying flow (at_d d) ++ new_if f (has_fetched (fetching text f flow) x)
-fetch_line text f d RollsBack x u h = refl
-fetch_line text f d Stays x u h = sym (append-nil (at_d d))
-fetch_line text f d Moves x u h = on_line f (fetching text f Moves) x h
+pub fetch_line : (instructions_size f : ℕ) (d : Latch Fetched) (flow : Flow) (x : Option Fetched) (u : Option ℕ) → From f x
+    → at_d (fetch_stage f d flow (fetch_request instructions_size f flow) x u).d ≡ staying flow (at_d d) ++ new_if f (has_fetched (fetch_request instructions_size f flow) x)
+fetch_line instructions_size f d RollsBack x u h = refl
+fetch_line instructions_size f d Stalls x u h = sym (append-nil (at_d d))
+fetch_line instructions_size f d Moves x u h = on_line f (fetch_request instructions_size f Moves) x h
 
 -- four stages in a row: what each leaves behind it, and what the next makes of it
 pub in_line : (w m x sm sx sd old lx ld new : List ℕ) → w ++ sm ≡ old → m ++ sx ≡ sm ++ lx → x ++ sd ≡ sx ++ ld
@@ -167,7 +171,7 @@ in_line w m x sm sx sd old lx ld new a b c =
     ap (λ l. w ++ (m ++ l)) third ∙ ap (λ l. w ++ l) second ∙ first
     ∙ ap (λ l. old ++ l) (sym (append_assoc lx ld new)) ∙ sym (append_assoc old (lx ++ ld) new)
 
--- c: M has a cause; w: it is told to wait; h: X is held; g: its guess is wrong
+-- c: M has a cause; w: it has to wait; h: X is held; g: its guess is wrong
 abbrev gone : Bool → Bool → Bool → List ℕ → List ℕ → List ℕ
 gone c w g x d = cond c (x ++ d) (cond (not c && not w && g) d [])
 
@@ -190,12 +194,12 @@ gone_length false true false g x d n k a b = refl
 gone_length false false h true x d n k a b = omega arith
 gone_length false false h false x d n k a b = refl
 
-pub d_length : (d : Latch Fetched) → length (at_d d) ≡ occupied d
+pub d_length : (d : Latch Fetched) → length (at_d d) ≡ occupancy d
 d_length Empty = refl
 d_length (Faulting stop) = refl
 d_length (Full f) = refl
 
-pub x_length : (x : Latch Decoded) → length (at_x x) ≡ occupied x
+pub x_length : (x : Latch Decoded) → length (at_x x) ≡ occupancy x
 x_length Empty = refl
 x_length (Faulting stop) = refl
 x_length (Full d) = refl

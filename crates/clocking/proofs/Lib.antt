@@ -16,3 +16,4 @@ pub mod LawsFlight
 pub mod Link
 pub mod Partial
 pub mod Served
+pub mod WriteBack

@@ -3,8 +3,7 @@ use Rattle.std.proofs.Common.{◌≡◌, ℕ, ◌<◌, Some, None, Option, Ok, E
 use mathlib.Core.Path.{fun_ext}
 use Rattle.base.specs.declared.bus.Request.{Request}
 use Rattle.base.specs.declared.bus.Request.TheVariants.{Read, Write}
-use Rattle.memory.specs.Meaning.{Meaning, Lawful}
-use Rattle.memory.specs.Meaning.{Reply}
+use Rattle.memory.specs.Meaning.{Meaning, Lawful, Reply}
 use Rattle.memory.specs.declared.Answer.TheVariants.{Word, Done}
 use Rattle.memory.specs.declared.Unserved.TheVariants.{Wait, Outside}
 use Rattle.clocking.specs.Ports.{Asked}

@@ -10,16 +10,16 @@ use Rattle.clocking.specs.declared.latch.Latch.{Latch}
 use Rattle.clocking.specs.declared.latch.Latch.TheVariants.{Empty}
 use Rattle.clocking.specs.declared.latch.Latches.{Latches}
 use Rattle.clocking.specs.declared.stage.Flow.{Flow}
-use Rattle.clocking.specs.declared.stage.Flow.TheVariants.{Moves, Stays, RollsBack}
+use Rattle.clocking.specs.declared.stage.Flow.TheVariants.{Moves, Stalls, RollsBack}
 
 -- how many instructions a latch holds
-abbrev pub occupied : {T : Type 0} → Latch T → ℕ
-occupied Empty = 0
-occupied l = 1
+abbrev pub occupancy : {T : Type 0} → Latch T → ℕ
+occupancy Empty = 0
+occupancy l = 1
 
--- how many stand in latches
+-- how many are in flight
 abbrev pub in_flight_count : Latches → ℕ
-in_flight_count k = occupied k.d + occupied k.x + occupied k.m + occupied k.w
+in_flight_count k = occupancy k.d + occupancy k.x + occupancy k.m + occupancy k.w
 
 -- whether an instruction is put into D
 abbrev pub has_fetched : Result (Option Request) Cause → Option Fetched → Bool
@@ -31,24 +31,25 @@ abbrev pub if_rolled : Flow → ℕ → ℕ
 if_rolled RollsBack n = n
 if_rolled flow n = 0
 
--- how many are removed: a rollback from data removes X, and any rollback D
-abbrev pub dropped : Latches → Flow → Flow → ℕ
-dropped k by-data by-execute = if_rolled by-data (occupied k.x) + if_rolled by-execute (occupied k.d)
+-- how many are dropped: a rollback from data drops X, and any rollback D
+abbrev pub dropped_count : Latches → Flow → Flow → ℕ
+dropped_count k by-data by-execute =
+    if_rolled by-data (occupancy k.x) + if_rolled by-execute (occupancy k.d)
 
 abbrev pub one_if : Bool → ℕ
 one_if true = 1
 one_if false = 0
 
 -- d is c after a clock
-pub record Counted (c : Counts) (fetched retired : Bool) (gone : ℕ) (d : Counts) : Type 0 where
-  pub clocks : d.clocks ≡ c.clocks + 1
-  pub fetched_so : d.fetched ≡ c.fetched + one_if fetched
-  pub retired_so : d.retired ≡ c.retired + one_if retired
-  pub dropped_so : d.dropped ≡ (c.dropped + gone) % 2 ^ 32
+pub record Counted (c : Counts) (fetches retires : Bool) (gone : ℕ) (d : Counts) : Type 0 where
+  pub clock_count : d.clocks ≡ c.clocks + 1
+  pub fetched_count : d.fetched ≡ c.fetched + one_if fetches
+  pub retired_count : d.retired ≡ c.retired + one_if retires
+  pub dropped_count : d.dropped ≡ (c.dropped + gone) % 2 ^ 32
 
-abbrev pub stays : Flow → Bool
-stays Stays = true
-stays flow = false
+abbrev pub stalls : Flow → Bool
+stalls Stalls = true
+stalls flow = false
 
 abbrev pub moves : Flow → Bool
 moves Moves = true

@@ -1,6 +1,10 @@
 pub mod Agreement
 pub mod Clock
 pub mod Counting
+pub mod Data
+pub mod Decode
+pub mod Execute
+pub mod Fetch
 pub mod Laws
 pub mod Ports
-pub mod Stages
+pub mod WriteBack

@@ -1,4 +1,4 @@
-//! What stands between the stages.
+//! The latches between the stages.
 use base::branch::Outcome;
 use rv32i::cause::Cause;
 use rv32i::effect::Access;
@@ -6,7 +6,7 @@ use rv32i::micro_op::MicroOp;
 use rv32i::register::Register;
 use sequential::record::Stop;
 
-/// Before decode: a word, the instruction that it issues or why it issues none, and where fetching went on.
+/// Before decode: a word, the instruction that it issues or the cause, and the guessed next address.
 #[derive(Clone, Copy)]
 pub struct Fetched {
     pub address: u32,
@@ -50,7 +50,7 @@ pub struct Completed {
     pub outcome: Option<Outcome>,
 }
 
-/// A latch is empty, or holds an instruction that has a cause to stop, or one that has none so far.
+/// A latch is empty, or holds an instruction that faults, or one that has not faulted so far.
 #[derive(Clone, Copy)]
 pub enum Latch<T> {
     Empty,

@@ -1,5 +1,5 @@
-//! The rule of the pipeline's clock: what stands between the stages, what each stage makes of it, and why the whole agrees with
-//! the sequential machine.
+//! The rule of the pipeline's clock: the latches, what each stage does with them, and why the pipeline agrees with the
+//! sequential machine.
 #![tactic(auto)]
 
 pub mod counts;

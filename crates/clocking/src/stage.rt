@@ -1,9 +1,9 @@
-//! What the stages tell one another.
+//! The flow of a latch in a clock.
 
-/// What a stage did with what stood before it.
+/// What a stage did with the latch before it. `RollsBack` drops what is younger.
 #[derive(Clone, Copy, PartialEq, Eq, Debug)]
 pub enum Flow {
     Moves,
-    Stays,
+    Stalls,
     RollsBack,
 }

@@ -1,11 +1,11 @@
-//! The state of a pipeline, and what a clock tells of itself.
+//! The state of a pipeline, and the record of a clock.
 use crate::counts::Counts;
 use crate::latch::Latches;
 use memory::Memory;
 use predictor::Predictor;
 use rv32i::registers::Registers;
-use sequential::record::{Retirement, Stop};
 use rv32i_words::memo::Memo;
+use sequential::record::{Retirement, Stop};
 
 /// The registers, the latches and the counts, with the words that are remembered, the predictor and the two memories.
 #[derive(Drop)]
@@ -18,7 +18,7 @@ pub struct Core<P: Predictor, I: Memory, D: Memory> {
     pub memo: Memo,
     pub predictor: P,
     pub instructions: I,
-    pub data: D,
+    pub data_memory: D,
 }
 
 /// What happened in a clock besides instructions moving on.
@@ -30,7 +30,7 @@ pub struct Notes {
     pub hazard: bool,
     /// The data memory said Wait.
     pub data_wait: bool,
-    /// A cause in data, or a wrong guess in execute, dropped what was fetched after it.
+    /// A fault in data, or a wrong guess in execute, dropped what was fetched after it.
     pub rollback: bool,
     /// The machine stopped.
     pub stop: bool,

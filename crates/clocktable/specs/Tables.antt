@@ -1,15 +1,16 @@
 -- The print of a clocked run. Assumes nothing.
-use Rattle.std.specs.Prelude.{ℕ, Bool, cond, ◌||◌, List, [], ◌∷◌, ◌++◌, Some, None, codes, decimal, Option}
+use Rattle.std.specs.Prelude.{ℕ, Bool, if◌then◌else◌, ◌||◌, List, [], ◌∷◌, ◌++◌, Some, None, codes, decimal, Option}
 use Rattle.std.proofs.Math.Utf8.{encode}
 use Rattle.std.specs.Bool.{then_some}
 use Rattle.clocking.specs.declared.state.ClockRecord.{ClockRecord}
 use Rattle.clocking.specs.declared.state.Notes.{Notes}
-use Rattle.listing.specs.Hex.{hex, places}
-use Rattle.listing.specs.Lines.{lines}
-use Rattle.listing.specs.Texts.{spaced, record_text, stop_text}
+use Rattle.text.specs.Columns.{spaced}
+use Rattle.text.specs.Hex.{hex, places}
+use Rattle.text.specs.Lines.{lines}
 use Rattle.pipeline.specs.declared.machine.RetiredAt.{RetiredAt}
 use Rattle.pipeline.specs.declared.machine.Totals.{Totals}
 use Rattle.sequential.specs.declared.record.Stop.{Stop}
+use Rattle.seqtable.specs.Records.{record_text, end_text}
 
 -- the address in a latch, or a hyphen
 abbrev pub address_text : Option ℕ → List ℕ
@@ -33,7 +34,7 @@ noted n = n.fetch_wait || (n.hazard || (n.data_wait || (n.rollback || n.stop)))
 
 -- the letters, or a hyphen
 abbrev pub notes_text : Notes → List ℕ
-notes_text n = cond (noted n) (letters n) (45 ∷ [])
+notes_text n = if noted n then letters n else (45 ∷ [])
 
 abbrev pub stages_text : ClockRecord → List ℕ
 stages_text c = spaced (address_text c.d) (spaced (address_text c.x) (spaced (address_text c.m) (address_text c.w)))
@@ -52,8 +53,7 @@ counts_text t = codes "fetched " ++ (decimal t.fetched ++ (codes " retired " ++ 
 
 -- the last line: the stop, or that the limit was met, and the counts
 abbrev pub end_line : Option Stop → Totals → List ℕ
-end_line (Some stop) t = codes "stop " ++ (stop_text stop ++ (32 ∷ (counts_text t ++ 10 ∷ [])))
-end_line None t = codes "limit " ++ (counts_text t ++ 10 ∷ [])
+end_line stop t = spaced (end_text stop) (counts_text t ++ 10 ∷ [])
 
 unfoldable pub retired_head : List ℕ
 retired_head = codes "retired clock address word rd value" ++ 10 ∷ []
@@ -66,4 +66,4 @@ unfoldable pub two_tables : List RetiredAt → List ClockRecord → List ℕ
 two_tables rs cs = (retired_head ++ lines retired_line 1 rs) ++ (clock_head ++ lines clock_line 1 cs)
 
 unfoldable pub clock_table : List RetiredAt → List ClockRecord → Option Stop → Totals → List ℕ
-clock_table rs cs stop t = ((retired_head ++ lines retired_line 1 rs) ++ (clock_head ++ lines clock_line 1 cs)) ++ end_line stop t
+clock_table rs cs stop t = two_tables rs cs ++ end_line stop t

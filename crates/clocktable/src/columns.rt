@@ -1,14 +1,14 @@
 //! A clock as text.
 ghost use Rattle.std.specs.Prelude.{◌≡◌, Some};
-ghost use Rattle.listing.specs.Hex.{hex, places};
-ghost use Rattle.listing.specs.Texts.{or_dash};
+ghost use Rattle.text.specs.Columns.{or_dash};
+ghost use Rattle.text.specs.Hex.{hex, places};
 ghost use Rattle.clocktable.specs.Tables.{address_text, letter_text, letters, noted, notes_text, stages_text, clock_text, counts_text};
 
 use clocking::state::{ClockRecord, Notes};
-use listing::hex::Hex;
-use listing::or_dash::OrDash;
 use pipeline::machine::Totals;
 use std::fmt;
+use text::hex::Hex;
+use text::or_dash::OrDash;
 
 /// A letter, or nothing.
 #[derive(Clone, Copy)]

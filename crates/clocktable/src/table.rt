@@ -4,12 +4,12 @@ ghost use Rattle.clocktable.specs.Tables.{retired_line, clock_line, end_line, tw
 
 use crate::columns::{ClockText, CountsText};
 use clocking::state::ClockRecord;
-use listing::records::{EndText, RecordText};
-use listing::table::{Columns, write_table};
 use pipeline::machine::{RetiredAt, Totals};
+use seqtable::records::{EndText, RecordText};
 use sequential::record::Stop;
 use std::alloc::{AllocError, Global};
 use std::fmt::Write;
+use text::table::{Columns, write_table};
 
 /// A retired instruction, behind its number in the run and the clock in which it retired.
 struct RetiredColumns;
@@ -65,7 +65,7 @@ pub fn tables(
 }
 
 /// What a clocked run prints: what retired, the clocks, and how it ended.
-#[tactic(auto, unfolding(crate::specs::Tables::two_tables, crate::specs::Tables::clock_table))]
+#[tactic(auto, unfolding(crate::specs::Tables::clock_table))]
 pub fn clock_table(
     heap: Global,
     retired: &[RetiredAt],

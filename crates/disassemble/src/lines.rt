@@ -1,9 +1,9 @@
 //! Words and their lines of assembly.
-use rv32i_text::text::AssemblyText;
+use rv32i_text::AssemblyText;
+use rv32i_words::decoding::decode;
 use std::alloc::{AllocError, Global};
 use std::fmt;
 use vectors::image::hexadecimal;
-use rv32i_words::decoding::decode;
 
 /// A word's line: the word as it was given, and its instruction or `illegal`.
 #[derive(Clone, Copy)]

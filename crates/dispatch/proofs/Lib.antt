@@ -1,3 +1,2 @@
-pub mod LayerReplays
-pub mod PlacedReplays
+pub mod StackReplays
 pub mod Stacking

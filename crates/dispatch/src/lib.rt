@@ -1,8 +1,7 @@
-//! The memories and the predictor of a run, chosen at run time.
+//! The memories and the predictor of a run, as a set-up chooses them.
 #![tactic(auto)]
 
 pub mod layer;
-pub mod placed;
 pub mod predictors;
 pub mod replies;
 pub mod stack;

@@ -2,7 +2,7 @@
 #![tactic(auto)]
 
 use clocking::state::ClockRecord;
-use listing::image::bytes_of;
+use image::bytes_of;
 use memory::Flat;
 use pipeline::journal::Journal;
 use pipeline::machine::{RetiredAt, load};

@@ -1,3 +1,3 @@
 pub mod Gaps
 pub mod LongRuns
-pub mod Tellings
+pub mod Watching

@@ -3,8 +3,8 @@ ghost use Rattle.std.specs.Prelude.{◌≡◌, false, [], ◌∷◌};
 ghost use Rattle.pipeline.specs.Calls.{retired_entries};
 ghost use Rattle.longrun.specs.Gaps.{none_yet, gap_to, gaps_after};
 
+use clock::listener::Listener;
 use clocking::state::Event;
-use pipeline::listener::Listener;
 use pipeline::machine::RetiredAt;
 
 /// The gaps of a run: how many clocks passed from loading to the first retirement, and from each to the next.

@@ -1,19 +1,19 @@
 //! A run up to a number of clocks.
 ghost use Rattle.std.specs.Prelude.{◌≡◌, ℕ};
 ghost use Rattle.longrun.specs.LongRuns.{RanTo};
-ghost use Rattle.longrun.specs.Tellings.{Watched};
+ghost use Rattle.longrun.specs.Watching.{Watched};
 
 use crate::gaps::Gaps;
 use memory::Memory;
 use pipeline::machine::Machine;
 use predictor::Predictor;
 
-/// After how many clocks who watches is told.
+/// After how many clocks a watch is called.
 const STRIDE: u32 = 256;
 
-/// Who is told now and then how far a run has come.
+/// Watches how far a long run has come.
 pub trait Watch {
-    /// What it does to who watches, to be told a number of clocks.
+    /// What a call with a number of clocks does to it.
     ghost hears: { Self → ℕ → Self → Type 0 };
 
     /// The clocks that the machine has made since it was loaded.
@@ -21,7 +21,7 @@ pub trait Watch {
         ensures { hears self.old clocks self.new };
 }
 
-/// Nobody is told.
+/// Watches nothing.
 #[derive(Drop)]
 pub struct Unwatched;
 
@@ -32,7 +32,7 @@ impl Watch for Unwatched {
 }
 
 /// Clocks a machine until it has made so many, or has stopped, and notes the gaps between retirements. A machine that is held
-/// stays as it is. Who watches is told the machine's clocks after each 256 that are made here, and after the last.
+/// stays as it is. The watch is called with the machine's clocks after each 256 that are made here, and after the last.
 pub fn run_to<P: Predictor, I: Memory, D: Memory, W: Watch>(
     machine: &mut Machine<P, I, D>,
     limit: u32,
@@ -41,7 +41,7 @@ pub fn run_to<P: Predictor, I: Memory, D: Memory, W: Watch>(
 )
     ensures ran { RanTo P.Predictor.table I.Memory.means D.Memory.means
         limit machine.old gaps.old machine.new gaps.new }
-    ensures told { Watched W.Watch.hears
+    ensures watched { Watched W.Watch.hears
         machine.old.core.counts.clocks machine.new.core.counts.clocks watch.old watch.new }
 {
     let mut clocks = machine.counts().clocks;

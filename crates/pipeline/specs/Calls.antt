@@ -3,11 +3,12 @@ use Rattle.std.specs.Prelude.{◌≡◌, ℕ, zero, ◌+◌, ◌<◌, Bool, true
 use Rattle.base.specs.Bytes.{within}
 use Rattle.base.specs.Refusals.{number, Answers, Says, reason}
 use Rattle.base.specs.declared.refusal.Refusal.{Refusal}
+use Rattle.base.specs.declared.refusal.Refusal.TheVariants.{Held, Stopped, LogFull, ClocksSpent, WrongToken}
 use Rattle.memory.specs.Meaning.{Meaning}
 use Rattle.sequential.specs.declared.record.Retirement.{Retirement}
 use Rattle.clocking.specs.Clock.{Cycled}
 use Rattle.clocking.specs.Laws.{ClockLaws}
-use Rattle.clocking.specs.Ports.{Table}
+use Rattle.clocking.specs.Ports.{TableOf}
 use Rattle.clocking.specs.declared.state.ClockRecord.{ClockRecord}
 use Rattle.clocking.specs.declared.state.Event.{Event}
 use Rattle.clocking.specs.declared.latch.Latch.TheVariants.{Empty}
@@ -47,7 +48,7 @@ pub record Loaded {P I D : Type 0}
   pub none_dropped : m.core.counts.dropped ≡ 0
   pub predictor : m.core.predictor ≡ p
   pub instructions : m.core.instructions ≡ i
-  pub «data» : m.core.«data» ≡ d
+  pub data_memory : m.core.data_memory ≡ d
 
 -- ---- the logs that clocks go to
 
@@ -91,8 +92,8 @@ abbrev pub clock_entries : List Event → List ClockRecord
 clock_entries [] = []
 clock_entries (e ∷ es) = e.clock ∷ clock_entries es
 
-abbrev pub logged : Logs → List Event → Logs
-logged l es = record {
+abbrev pub with_events : Logs → List Event → Logs
+with_events l es = record {
   retired = with_records l.retired (retired_entries es);
   clocks = with_records l.clocks (clock_entries es);
 }
@@ -102,69 +103,69 @@ logged l es = record {
 abbrev pub is_stopped : {P I D : Type 0} → Machine P I D → Bool
 is_stopped m = is_some m.core.stopped
 
--- with which number a clock is refused: that of the first test that says no, or 0; who is told of it
--- may be full
+-- with which number a clock is refused: that of the first test that says no, or 0; who hears it may
+-- be full
 abbrev pub refusal_at : {P I D : Type 0} → Bool → Machine P I D → ℕ
 refusal_at full m =
-    if m.held then 4
-    else (if is_stopped m then 5
-    else (if full then 6
-    else (if m.core.counts.clocks == 4294967295 then 7
+    if m.held then number Held
+    else (if is_stopped m then number Stopped
+    else (if full then number LogFull
+    else (if m.core.counts.clocks == 4294967295 then number ClocksSpent
     else 0)))
 
 -- that of a clock into logs
 abbrev pub refusal : {P I D : Type 0} → Logs → Machine P I D → ℕ
 refusal l m = refusal_at (is_full l) m
 
-module _ {P I D : Type 0} (table : Table P) (instructions : Meaning I) (words : Meaning D) where
+module _ {P I D : Type 0} (table : TableOf P) (instructions : Meaning I) (data_memory : Meaning D) where
   -- an accepted clock of the machine: it is what the rule has, and keeps the laws
   pub record Ticked (m : Machine P I D) (e : Event) (n : Machine P I D) : Type 0 where
     pub same_serial : n.serial ≡ m.serial
     pub same_held : n.held ≡ m.held
-    pub cycled : Cycled table instructions words m.core e n.core
-    pub laws : ClockLaws table instructions words m.core e n.core
+    pub cycled : Cycled table instructions data_memory m.core e n.core
+    pub laws : ClockLaws table instructions data_memory m.core e n.core
 
   abbrev pub OneClock : Machine P I D → List Event → Machine P I D → Type 0
   OneClock m es n = (e : Event) × (es ≡ e ∷ []) × Ticked m e n
 
   -- the clocks es that the call made, one or none, and the logs j and the machine n after it
-  abbrev pub Clocked : Logs → Machine P I D → Result (Unit {0}) Refusal
+  abbrev pub ClockCall : Logs → Machine P I D → Result (Unit {0}) Refusal
       → List Event → Logs → Machine P I D → Type 0
-  Clocked l m r es j n =
+  ClockCall l m r es j n =
       Says
-      (λ _. (refusal l m ≡ 0) × OneClock m es n × (j ≡ logged l es))
+      (λ _. (refusal l m ≡ 0) × OneClock m es n × (j ≡ with_events l es))
       (λ why. (refusal l m ≡ why) × (es ≡ []) × (n ≡ m) × (j ≡ l))
       r
 
-  abbrev pub ClockedInto : Logs → Machine P I D → Result (Unit {0}) Refusal → Logs → Machine P I D → Type 0
-  ClockedInto l m r j n = (es : List Event) × Clocked l m r es j n
+  abbrev pub ClockInto : Logs → Machine P I D → Result (Unit {0}) Refusal → Logs → Machine P I D → Type 0
+  ClockInto l m r j n = (es : List Event) × ClockCall l m r es j n
 
 -- ---- run
 
--- so many accepted clocks in a row, where after some events who is told of them may be full
+-- a number of accepted clocks in a row, where after some events who hears them may be full
 pub data FreeClocks {P I D : Type 0}
-    (table : Table P) (instructions : Meaning I) (words : Meaning D) (full : List Event → Bool)
+    (table : TableOf P) (instructions : Meaning I) (data_memory : Meaning D) (full : List Event → Bool)
     (m : Machine P I D)
     : ℕ → List Event → Machine P I D → Type 0 where
-  start : FreeClocks table instructions words full m 0 [] m
+  start : FreeClocks table instructions data_memory full m 0 [] m
   next : {k : ℕ} {es : List Event} {n : Machine P I D} (e : Event) (p : Machine P I D)
-      → FreeClocks table instructions words full m k es n
+      → FreeClocks table instructions data_memory full m k es n
       → refusal_at (full es) n ≡ 0
-      → Ticked table instructions words n e p
-      → FreeClocks table instructions words full m (k + 1) (es ++ e ∷ []) p
+      → Ticked table instructions data_memory n e p
+      → FreeClocks table instructions data_memory full m (k + 1) (es ++ e ∷ []) p
 
 -- those into logs
-abbrev pub Clocks : {P I D : Type 0} → Table P → Meaning I → Meaning D → Logs → Machine P I D
+abbrev pub Clocks : {P I D : Type 0} → TableOf P → Meaning I → Meaning D → Logs → Machine P I D
     → ℕ → List Event → Machine P I D → Type 0
-Clocks table instructions words l =
-    FreeClocks table instructions words (λ es. is_full (logged l es))
+Clocks table instructions data_memory l =
+    FreeClocks table instructions data_memory (λ es. is_full (with_events l es))
 
 -- fewer than asked for, or none asked for
 abbrev pub Short : ℕ → ℕ → Type 0
 Short made n = (made < n) ⊎ ((made ≡ 0) × (n ≡ 0))
 
--- How a run of n ends, by the number of its reason, at the machine then reached; who is told of it may
--- then be full.
+-- How a run of n ends, by the number of its reason, at the machine then reached; who hears it may then
+-- be full.
 -- 0: all were made, and where none were asked for, nothing refused the first test.
 -- Any other: it is short, and just with this number the next clock would be refused.
 abbrev pub EndedAt : {P I D : Type 0} → Bool → Machine P I D → ℕ → ℕ → ℕ → Type 0
@@ -175,25 +176,25 @@ EndedAt full p n made why = Short made n × (refusal_at full p ≡ why)
 abbrev pub Ended : {P I D : Type 0} → Logs → Machine P I D → ℕ → ℕ → ℕ → Type 0
 Ended j = EndedAt (is_full j)
 
-module _ {P I D : Type 0} (table : Table P) (instructions : Meaning I) (words : Meaning D) where
+module _ {P I D : Type 0} (table : TableOf P) (instructions : Meaning I) (data_memory : Meaning D) where
   -- the clocks es that the call made, and the logs j and the machine p after it
-  abbrev pub Ran : Logs → Machine P I D → ℕ → Run → List Event → Logs → Machine P I D → Type 0
-  Ran l m n r es j p =
-      Clocks table instructions words l m r.made es p
-      × (j ≡ logged l es)
+  abbrev pub RunCall : Logs → Machine P I D → ℕ → Run → List Event → Logs → Machine P I D → Type 0
+  RunCall l m n r es j p =
+      Clocks table instructions data_memory l m r.made es p
+      × (j ≡ with_events l es)
       × Ended j p n r.made (reason r.why)
 
-  abbrev pub RanInto : Logs → Machine P I D → ℕ → Run → Logs → Machine P I D → Type 0
-  RanInto l m n r j p = (es : List Event) × Ran l m n r es j p
+  abbrev pub RunInto : Logs → Machine P I D → ℕ → Run → Logs → Machine P I D → Type 0
+  RunInto l m n r j p = (es : List Event) × RunCall l m n r es j p
 
 -- ---- a run that a listener hears
 
-module _ {P I D : Type 0} (table : Table P) (instructions : Meaning I) (words : Meaning D) where
+module _ {P I D : Type 0} (table : TableOf P) (instructions : Meaning I) (data_memory : Meaning D) where
   -- the clocks es that the call made and the machine p after it; the listener may be full at its end,
   -- and was not before
-  abbrev pub RanHeard : Bool → Machine P I D → ℕ → Run → List Event → Machine P I D → Type 0
-  RanHeard full m n r es p =
-      FreeClocks table instructions words (λ _. false) m r.made es p
+  abbrev pub RunHeardCall : Bool → Machine P I D → ℕ → Run → List Event → Machine P I D → Type 0
+  RunHeardCall full m n r es p =
+      FreeClocks table instructions data_memory (λ _. false) m r.made es p
       × EndedAt full p n r.made (reason r.why)
 
 module _ {L : Type 0} (heard : L → Event → L → Type 0) (full : L → Bool) where
@@ -207,10 +208,10 @@ module _ {L : Type 0} (heard : L → Event → L → Type 0) (full : L → Bool)
         → Heard before (es ++ e ∷ []) after
 
   -- the listener i and the machine p after the call: what i heard is what was made
-  abbrev pub HeardRun : {P I D : Type 0} → Table P → Meaning I → Meaning D
+  abbrev pub HeardRun : {P I D : Type 0} → TableOf P → Meaning I → Meaning D
       → L → Machine P I D → ℕ → Run → L → Machine P I D → Type 0
-  HeardRun table instructions words l m n r i p =
-      (es : List Event) × RanHeard table instructions words (full i) m n r es p × Heard l es i
+  HeardRun table instructions data_memory l m n r i p =
+      (es : List Event) × RunHeardCall table instructions data_memory (full i) m n r es p × Heard l es i
 
 -- ---- hold and release
 
@@ -222,7 +223,7 @@ abbrev pub HoldCall : {P I D : Type 0}
 HoldCall m r n =
     Says
     (λ token. (m.held ≡ false) × (token ≡ fresh m.serial) × (n ≡ with_held m true))
-    (λ why. (why ≡ 4) × (m.held ≡ true) × (n ≡ m))
+    (λ why. (why ≡ number Held) × (m.held ≡ true) × (n ≡ m))
     r
 
 abbrev pub IsUnfit : {P I D : Type 0} → Machine P I D → HoldToken → Type 0
@@ -235,5 +236,5 @@ ReleaseCall m token r n =
     Answers
     (λ e. number e.why)
     (λ _. (m.held ≡ true) × (token.serial ≡ m.serial) × (n ≡ with_held m false))
-    (λ why e. (why ≡ 8) × IsUnfit m token × (e.token ≡ token) × (n ≡ m))
+    (λ why e. (why ≡ number WrongToken) × IsUnfit m token × (e.token ≡ token) × (n ≡ m))
     r

@@ -1,10 +1,10 @@
 -- What the calls' contracts say of the two logs. Assumes nothing.
 use Rattle.std.specs.Prelude.{◌≡◌, Bool, List, Result}
-use Rattle.base.specs.Logs.{records, spare, room}
+use Rattle.base.specs.Logs.{records, spare, room, slots_of}
 use Rattle.base.specs.Refusals.{Says}
 use Rattle.base.specs.declared.refusal.Refusal.{Refusal}
 use Rattle.clocking.specs.declared.state.Event.{Event}
-use Rattle.pipeline.specs.Calls.{Logs, logged, refusal_at}
+use Rattle.pipeline.specs.Calls.{Logs, with_events, refusal_at}
 use Rattle.pipeline.specs.declared.journal.Journal.{Journal}
 use Rattle.pipeline.specs.declared.machine.Machine.{Machine}
 
@@ -15,16 +15,16 @@ logs j = record {
   clocks = record { records = records j.clocks; spare = spare j.clocks };
 }
 
--- the logs stand in the slots in which they stood
+-- the logs keep their slots
 pub record SameSlots (j k : Journal) : Type 0 where
   pub retired_room : room k.retirements ≡ room j.retirements
   pub clock_room : room k.clocks ≡ room j.clocks
-  pub retired_lent : k.retirements.slots.ghost_name ≡ j.retirements.slots.ghost_name
-  pub clock_lent : k.clocks.slots.ghost_name ≡ j.clocks.slots.ghost_name
+  pub retired_lent : slots_of k.retirements ≡ slots_of j.retirements
+  pub clock_lent : slots_of k.clocks ≡ slots_of j.clocks
 
--- these events have come into the two logs
+-- k has these events beyond those of j
 pub record Adds (j : Journal) (es : List Event) (k : Journal) : Type 0 where
-  pub logs_so : logs k ≡ logged (logs j) es
+  pub added : logs k ≡ with_events (logs j) es
   pub slots : SameSlots j k
 
 -- what the test before a clock says

@@ -3,11 +3,11 @@ use Rattle.std.specs.Prelude.{◌≡◌, ℕ, ◌+◌, Bool, List, [], ◌∷◌
 use Rattle.base.specs.declared.refusal.Refusal.{Refusal}
 use Rattle.memory.specs.Meaning.{Meaning}
 use Rattle.clocking.specs.Agreement.{Agreement}
-use Rattle.clocking.specs.Ports.{Table}
+use Rattle.clocking.specs.Ports.{TableOf}
 use Rattle.clocking.specs.declared.state.ClockRecord.{ClockRecord}
 use Rattle.clocking.specs.declared.state.Event.{Event}
-use Rattle.pipeline.specs.Calls.{Logs, retired_entries, clock_entries, Clocked, Ran, RanHeard, HoldCall, ReleaseCall}
-use Rattle.pipeline.specs.Pauses.{Paused}
+use Rattle.pipeline.specs.Calls.{Logs, retired_entries, clock_entries, ClockCall, RunCall, RunHeardCall, HoldCall, ReleaseCall}
+use Rattle.pipeline.specs.Pauses.{PauseCall}
 use Rattle.pipeline.specs.declared.machine.Machine.{Machine}
 use Rattle.pipeline.specs.declared.machine.Rejected.{Rejected}
 use Rattle.pipeline.specs.declared.machine.RetiredAt.{RetiredAt}
@@ -45,44 +45,44 @@ pub record Added (before after : Logs) (added : Entries) : Type 0 where
 -- a machine, by the relation that the call ensures, and one for all readings. A run that a listener
 -- hears may be given no logs: its entries are those of the events that the listener heard.
 pub data Calls {P I D : Type 0}
-    (table : Table P) (instructions : Meaning I) (words : Meaning D) (first : Machine P I D)
+    (table : TableOf P) (instructions : Meaning I) (data_memory : Meaning D) (first : Machine P I D)
     : List Event → Entries → Machine P I D → Type 0 where
-  none : Calls table instructions words first [] no_entries first
+  none : Calls table instructions data_memory first [] no_entries first
   clock : {h : List Event} {put : Entries} {m : Machine P I D} (before after : Logs)
       (answer : Result (Unit {0}) Refusal) (made : List Event) (added : Entries) (n : Machine P I D)
-      → Calls table instructions words first h put m
-      → Clocked table instructions words before m answer made after n
+      → Calls table instructions data_memory first h put m
+      → ClockCall table instructions data_memory before m answer made after n
       → Added before after added
-      → Calls table instructions words first (h ++ made) (followed_by put added) n
+      → Calls table instructions data_memory first (h ++ made) (followed_by put added) n
   run : {h : List Event} {put : Entries} {m : Machine P I D} (before after : Logs)
       (count : ℕ) (answer : Run) (made : List Event) (added : Entries) (n : Machine P I D)
-      → Calls table instructions words first h put m
-      → Ran table instructions words before m count answer made after n
+      → Calls table instructions data_memory first h put m
+      → RunCall table instructions data_memory before m count answer made after n
       → Added before after added
-      → Calls table instructions words first (h ++ made) (followed_by put added) n
+      → Calls table instructions data_memory first (h ++ made) (followed_by put added) n
   run_heard : {h : List Event} {put : Entries} {m : Machine P I D} (full : Bool)
       (count : ℕ) (answer : Run) (made : List Event) (n : Machine P I D)
-      → Calls table instructions words first h put m
-      → RanHeard table instructions words full m count answer made n
-      → Calls table instructions words first (h ++ made) (followed_by put (entries_of made)) n
+      → Calls table instructions data_memory first h put m
+      → RunHeardCall table instructions data_memory full m count answer made n
+      → Calls table instructions data_memory first (h ++ made) (followed_by put (entries_of made)) n
   hold : {h : List Event} {put : Entries} {m : Machine P I D}
       (answer : Result HoldToken Refusal) (n : Machine P I D)
-      → Calls table instructions words first h put m
+      → Calls table instructions data_memory first h put m
       → HoldCall m answer n
-      → Calls table instructions words first h put n
+      → Calls table instructions data_memory first h put n
   release : {h : List Event} {put : Entries} {m : Machine P I D}
       (token : HoldToken) (answer : Result (Unit {0}) Rejected) (n : Machine P I D)
-      → Calls table instructions words first h put m
+      → Calls table instructions data_memory first h put m
       → ReleaseCall m token answer n
-      → Calls table instructions words first h put n
+      → Calls table instructions data_memory first h put n
   pause : {h : List Event} {put : Entries} {m : Machine P I D}
       (answer : Result (Unit {0}) Refusal) (n : Machine P I D)
-      → Calls table instructions words first h put m
-      → Paused m answer n
-      → Calls table instructions words first h put n
+      → Calls table instructions data_memory first h put m
+      → PauseCall m answer n
+      → Calls table instructions data_memory first h put n
   reading : {h : List Event} {put : Entries} {m : Machine P I D}
-      → Calls table instructions words first h put m
-      → Calls table instructions words first h put m
+      → Calls table instructions data_memory first h put m
+      → Calls table instructions data_memory first h put m
 
 -- ---- the statement
 
@@ -94,9 +94,9 @@ pub record Recorded (h : List Event) (put : Entries) : Type 0 where
       → e.clock.clock ≡ length a + 1
 
 -- After any calls a machine agrees with the sequential machine that starts as first does, on the
--- words and bytes that its two memories mean, and the logs have what the history tells.
-abbrev pub Agrees : {P I D : Type 0} → Table P → Meaning I → Meaning D → Machine P I D → Type 0
-Agrees {P} {I} {D} table instructions words first =
+-- words and bytes that its two memories mean, and the logs have the records of the history.
+abbrev pub Agrees : {P I D : Type 0} → TableOf P → Meaning I → Meaning D → Machine P I D → Type 0
+Agrees {P} {I} {D} table instructions data_memory first =
     (h : List Event) (put : Entries) (m : Machine P I D)
-    → Calls table instructions words first h put m
-    → Agreement table instructions words first.core h m.core × Recorded h put
+    → Calls table instructions data_memory first h put m
+    → Agreement table instructions data_memory first.core h m.core × Recorded h put

@@ -1,12 +1,12 @@
 //! The two logs that a machine's clocks go to.
 ghost use Rattle.std.specs.Prelude.{◌≡◌, [], ◌∷◌, length, false};
 ghost use Rattle.base.specs.Logs.{room};
-ghost use Rattle.pipeline.specs.Calls.{empty_logs, is_full, logged};
+ghost use Rattle.pipeline.specs.Calls.{empty_logs, is_full, with_events};
 ghost use Rattle.pipeline.specs.Logged.{logs, SameSlots, Adds};
 
-use crate::listener::Listener;
 use crate::machine::RetiredAt;
 use base::log::Log;
+use clock::listener::Listener;
 use clocking::state::{ClockRecord, Event};
 
 /// What retired, and the clocks, each in slots that the caller lends.
@@ -34,10 +34,10 @@ impl<'a> Journal<'a> {
         }
     }
 
-    /// Adds what a clock tells, for which there is room.
+    /// Adds the records of a clock, for which there is room.
     fn record(&mut self, event: Event)
         requires { is_full (logs self.old) ≡ false }
-        ensures adds { logs self.new ≡ logged (logs self.old) (event ∷ []) }
+        ensures adds { logs self.new ≡ with_events (logs self.old) (event ∷ []) }
         ensures slots { SameSlots self.old self.new }
     {
         if let Some(retirement) = event.retirement {
@@ -56,7 +56,7 @@ impl Listener for Journal<'_> {
 
     ghost full = { λ j. is_full (logs j) };
 
-    /// Adds what a clock tells, where each of the two has a slot left.
+    /// Adds the records of a clock, where each of the two has a slot left.
     fn hear(&mut self, event: &Event) {
         if !self.is_full() {
             self.record(*event);

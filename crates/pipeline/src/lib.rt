@@ -2,7 +2,6 @@
 #![tactic(auto)]
 
 pub mod journal;
-pub mod listener;
 pub mod machine;
 pub mod pause;
 pub mod token;

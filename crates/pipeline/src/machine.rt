@@ -36,8 +36,8 @@ pub struct Run {
     pub why: Option<Refusal>,
 }
 
-/// How many clocks a machine has made since it was loaded, and what became of the instructions that it fetched: so many
-/// retired, were removed by rollbacks or stand in latches, and `stopped` is 1 once it has stopped, else 0.
+/// The clocks that a machine has made since it was loaded, and the instructions that it fetched, that retired, that rollbacks
+/// removed and that stand in latches. `stopped` is 1 once it has stopped, else 0.
 #[derive(Clone, Copy, PartialEq, Eq, Debug)]
 pub struct Totals {
     pub clocks: u32,

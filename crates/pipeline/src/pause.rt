@@ -1,6 +1,5 @@
 //! How a machine is held and let go again.
-ghost use Rattle.std.specs.Prelude.{◌≡◌};
-ghost use Rattle.pipeline.specs.Pauses.{Paused};
+ghost use Rattle.pipeline.specs.Pauses.{PauseCall};
 
 use crate::machine::Machine;
 use base::refusal::Refusal;
@@ -11,7 +10,7 @@ use predictor::Predictor;
 pub fn pause<P: Predictor, I: Memory, D: Memory>(
     machine: &mut Machine<P, I, D>,
 ) -> Result<(), Refusal>
-    ensures { Paused machine.old result machine.new }
+    ensures { PauseCall machine.old result machine.new }
 {
     let token = machine.hold()?;
     // no `map_err`: what comes back holds a token, which may not be dropped

@@ -4,39 +4,39 @@ use Rattle.std.specs.Prelude.{ℕ, ◌+◌, ◌-◌, ◌*◌, ◌/◌, ◌%◌, 
 -- ---- one counter
 
 -- one up or one down, within 0 to 3 (a difference of numbers stops at 0)
-abbrev pub stepped : ℕ → Bool → ℕ
-stepped value true = min (value + 1) 3
-stepped value false = value - 1
+abbrev pub value_after : ℕ → Bool → ℕ
+value_after value true = min (value + 1) 3
+value_after value false = value - 1
 
 -- whether it stands in the upper half, from 2 up
-abbrev pub high : ℕ → Bool
-high value = nat_le 2 value
+abbrev pub is_high : ℕ → Bool
+is_high value = nat_le 2 value
 
 -- ---- a table of 256 counters, as the list of their values
 
 -- all of them at first
-abbrev pub fresh : List ℕ
-fresh = replicate 256 1
+abbrev pub initial_values : List ℕ
+initial_values = replicate 256 1
 
--- the value of the one of that number
+-- the value of the one at an index
 abbrev pub value_at : List ℕ → ℕ → ℕ
-value_at values number = slice_index values number
+value_at values index = slice_index values index
 
--- all of them, once the one of that number has gone up or down
-abbrev pub counted : List ℕ → ℕ → Bool → List ℕ
-counted values number up = slice_set values number (stepped (value_at values number) up)
+-- all of them, once the one at an index has gone up or down
+abbrev pub values_after : List ℕ → ℕ → Bool → List ℕ
+values_after values index up = slice_set values index (value_after (value_at values index) up)
 
--- which one the branch at that address has
-abbrev pub number_of : ℕ → ℕ
-number_of address = address / 4 % 256
+-- the index of the one that the branch at that address has
+abbrev pub index_of : ℕ → ℕ
+index_of address = address / 4 % 256
 
 -- ---- a history, as a number of eight binary digits
 
 -- the outcome of a branch becomes the lowest digit, and the highest is lost
-abbrev pub shifted : ℕ → Bool → ℕ
-shifted history true = (2 * history + 1) % 256
-shifted history false = 2 * history % 256
+abbrev pub history_after : ℕ → Bool → ℕ
+history_after history true = (2 * history + 1) % 256
+history_after history false = 2 * history % 256
 
--- which counter the branch at that address has under that history
-abbrev pub number_under : ℕ → ℕ → ℕ
-number_under history address = bit_xor (number_of address) history
+-- the index of the counter that the branch at that address has under that history
+abbrev pub index_under : ℕ → ℕ → ℕ
+index_under history address = bit_xor (index_of address) history

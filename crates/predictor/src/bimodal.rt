@@ -1,8 +1,8 @@
 //! A counter for each branch.
 ghost use Rattle.std.specs.Prelude.{◌≡◌};
-ghost use Rattle.predictor.specs.Counting.{fresh, value_at, number_of};
+ghost use Rattle.predictor.specs.Counting.{initial_values, value_at, index_of};
 ghost use Rattle.predictor.specs.States.{counters_of, bimodal_table};
-ghost use Rattle.predictor.specs.Tables.{MovedOn, taught};
+ghost use Rattle.predictor.specs.Tables.{MovedOn, counters_after};
 
 use crate::Predictor;
 use crate::counter::Counter;
@@ -18,7 +18,7 @@ pub struct Bimodal {
 impl Bimodal {
     /// All counters are 1 at first.
     pub fn new() -> Bimodal
-        ensures { counters_of result ≡ fresh }
+        ensures { counters_of result ≡ initial_values }
     {
         Bimodal {
             counters: Counters::new(),
@@ -27,9 +27,9 @@ impl Bimodal {
 
     /// The counter that the branch at `address` has.
     pub fn counter(&self, address: u32) -> Counter
-        ensures { result.value ≡ value_at (counters_of self.now) (number_of address) }
+        ensures { result.value ≡ value_at (counters_of self.now) (index_of address) }
     {
-        self.counters.get(Counters::number_of(address))
+        self.counters.get(Counters::index_of(address))
     }
 }
 
@@ -42,9 +42,9 @@ impl Predictor for Bimodal {
 
     fn update(&mut self, outcome: Outcome)
         ensures table { MovedOn (bimodal_table self.old) outcome (bimodal_table self.new) }
-        ensures counters { counters_of self.new ≡ taught (counters_of self.old) outcome }
+        ensures counters { counters_of self.new ≡ counters_after (counters_of self.old) outcome }
     {
-        let number = Counters::number_of(outcome.address);
-        self.counters.count(number, outcome.taken);
+        let index = Counters::index_of(outcome.address);
+        self.counters.count(index, outcome.taken);
     }
 }

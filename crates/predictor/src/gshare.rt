@@ -1,8 +1,8 @@
 //! A counter for each branch under each history.
 ghost use Rattle.std.specs.Prelude.{◌≡◌};
-ghost use Rattle.predictor.specs.Counting.{fresh, value_at, number_under, shifted};
+ghost use Rattle.predictor.specs.Counting.{initial_values, value_at, index_under, history_after};
 ghost use Rattle.predictor.specs.States.{gshare_counters, history_of, gshare_table};
-ghost use Rattle.predictor.specs.Tables.{MovedOn, taught_under};
+ghost use Rattle.predictor.specs.Tables.{MovedOn, gshare_counters_after};
 
 use crate::Predictor;
 use crate::counter::Counter;
@@ -20,7 +20,7 @@ pub struct Gshare {
 impl Gshare {
     /// All counters are 1 at first, and the history is 0.
     pub fn new() -> Gshare
-        ensures counters { gshare_counters result ≡ fresh }
+        ensures counters { gshare_counters result ≡ initial_values }
         ensures history { history_of result ≡ 0 }
     {
         Gshare {
@@ -37,18 +37,18 @@ impl Gshare {
     }
 
     /// Which counter the branch at `address` has now.
-    fn number(&self, address: u32) -> u8
-        ensures { result ≡ number_under (history_of self.now) address }
+    fn index(&self, address: u32) -> u8
+        ensures { result ≡ index_under (history_of self.now) address }
     {
-        Counters::number_of(address) ^ self.history()
+        Counters::index_of(address) ^ self.history()
     }
 
     /// The counter that the branch at `address` has now.
     pub fn counter(&self, address: u32) -> Counter
         ensures { result.value
-            ≡ value_at (gshare_counters self.now) (number_under (history_of self.now) address) }
+            ≡ value_at (gshare_counters self.now) (index_under (history_of self.now) address) }
     {
-        self.counters.get(self.number(address))
+        self.counters.get(self.index(address))
     }
 }
 
@@ -62,11 +62,11 @@ impl Predictor for Gshare {
     fn update(&mut self, outcome: Outcome)
         ensures table { MovedOn (gshare_table self.old) outcome (gshare_table self.new) }
         ensures counters { gshare_counters self.new
-            ≡ taught_under (history_of self.old) (gshare_counters self.old) outcome }
-        ensures history { history_of self.new ≡ shifted (history_of self.old) outcome.taken }
+            ≡ gshare_counters_after (history_of self.old) (gshare_counters self.old) outcome }
+        ensures history { history_of self.new ≡ history_after (history_of self.old) outcome.taken }
     {
-        let number = self.number(outcome.address);
-        self.counters.count(number, outcome.taken);
+        let index = self.index(outcome.address);
+        self.counters.count(index, outcome.taken);
         self.history.push(outcome.taken);
     }
 }

@@ -14,6 +14,7 @@ pub mod counters;
 pub mod gshare;
 pub mod history;
 pub mod never;
+mod sum;
 #[cfg(test)]
 mod tests;
 pub mod tournament;

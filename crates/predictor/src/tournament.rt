@@ -1,7 +1,7 @@
 //! Two predictors, and counters that choose between them.
 ghost use Rattle.std.specs.Prelude.{◌≡◌};
-ghost use Rattle.predictor.specs.Counting.{fresh, value_at, number_of};
-ghost use Rattle.predictor.specs.States.{choosers_of, first_of, second_of, judged_by, tournament_table};
+ghost use Rattle.predictor.specs.Counting.{initial_values, value_at, index_of};
+ghost use Rattle.predictor.specs.States.{choosers_of, first_of, second_of, next_choosers, tournament_table};
 ghost use Rattle.predictor.specs.Tables.{MovedOn};
 
 use crate::Predictor;
@@ -20,7 +20,7 @@ pub struct Tournament<A, B> {
 impl<A, B> Tournament<A, B> {
     /// All choosing counters are 1 at first.
     pub fn new(first: A, second: B) -> Tournament<A, B>
-        ensures choosers { choosers_of result ≡ fresh }
+        ensures choosers { choosers_of result ≡ initial_values }
         ensures first { first_of result ≡ first }
         ensures second { second_of result ≡ second }
     {
@@ -33,9 +33,9 @@ impl<A, B> Tournament<A, B> {
 
     /// The choosing counter that the branch at `address` has.
     pub fn chooser(&self, address: u32) -> Counter
-        ensures { result.value ≡ value_at (choosers_of self.now) (number_of address) }
+        ensures { result.value ≡ value_at (choosers_of self.now) (index_of address) }
     {
-        self.choosers.get(Counters::number_of(address))
+        self.choosers.get(Counters::index_of(address))
     }
 }
 
@@ -43,15 +43,15 @@ impl<A: Predictor, B: Predictor> Tournament<A, B> {
     /// Where the two guesses for a branch differ, its choosing counter goes up if the second was right, else down.
     fn judge(&mut self, outcome: Outcome)
         ensures choosers { choosers_of self.new
-            ≡ judged_by A.Predictor.table B.Predictor.table self.old outcome }
+            ≡ next_choosers A.Predictor.table B.Predictor.table self.old outcome }
         ensures first { first_of self.new ≡ first_of self.old }
         ensures second { second_of self.new ≡ second_of self.old }
     {
         let first = self.first.guess(outcome.address, outcome.target);
         let second = self.second.guess(outcome.address, outcome.target);
         if first != second {
-            let number = Counters::number_of(outcome.address);
-            self.choosers.count(number, second == outcome.taken);
+            let index = Counters::index_of(outcome.address);
+            self.choosers.count(index, second == outcome.taken);
         }
     }
 }
@@ -71,7 +71,7 @@ impl<A: Predictor, B: Predictor> Predictor for Tournament<A, B> {
         ensures table { let table = tournament_table A.Predictor.table B.Predictor.table in
             MovedOn (table self.old) outcome (table self.new) }
         ensures choosers { choosers_of self.new
-            ≡ judged_by A.Predictor.table B.Predictor.table self.old outcome }
+            ≡ next_choosers A.Predictor.table B.Predictor.table self.old outcome }
         ensures first { let table = A.Predictor.table in
             MovedOn (table (first_of self.old)) outcome (table (first_of self.new)) }
         ensures second { let table = B.Predictor.table in

@@ -1,9 +1,9 @@
 //! The account of a run: what retired, how it ended, and what the registers and the memory hold then.
-use listing::hex::Hex;
-use listing::records::{RecordText, StopText};
+use seqtable::records::{RecordText, StopText};
 use sequential::record::{Retired, Stop};
 use std::alloc::{AllocError, Global};
 use std::fmt::Write;
+use text::hex::Hex;
 use vectors::digest::Digest;
 
 /// How many records are told in full; the others are in the digest.

@@ -1,28 +1,23 @@
 -- A run and the text of it. Assumes nothing.
-use Rattle.std.proofs.Common.{◌≡◌, ℕ, zero, suc, ◌≤◌, Bool, true, false, ◌⊎◌, List, [], ◌∷◌, ◌++◌, length, Some, None, Option, sym, refl, ap, ◌∙◌, subst, inl, inr, ⊎_elim, true≢false, arith, length-append}
-use Rattle.std.proofs.lemmas.Bool.{eqb-true}
-use Rattle.std.proofs.lemmas.Bool.Decides.{nat_tests}
-use Rattle.std.proofs.lemmas.List.{length-drop}
+use Rattle.std.proofs.Common.{◌≡◌, ℕ, ◌≤◌, Bool, true, false, List, ◌++◌, length, sym, ap, ◌∙◌, subst, inl, inr, ⊎_elim, true≢false, arith}
 use Rattle.base.specs.Logs.{records}
 use Rattle.base.specs.Refusals.{reason}
 use Rattle.memory.specs.Meaning.{Meaning}
-use Rattle.sequential.specs.declared.record.Retirement.{Retirement}
-use Rattle.clocking.specs.Ports.{Table}
+use Rattle.clocking.specs.Ports.{TableOf}
 use Rattle.clocking.specs.declared.state.ClockRecord.{ClockRecord}
 use Rattle.clocking.specs.declared.state.Event.{Event}
-use Rattle.pipeline.specs.Calls.{Logs, empty_logs, is_full, logged, retired_at, retired_entries, clock_entries, is_stopped, Clocks, start, next, Ended, Ran, RanInto}
+use Rattle.pipeline.specs.Calls.{Logs, empty_logs, is_full, with_events, retired_entries, clock_entries, Ended, RunCall, RunInto}
 use Rattle.pipeline.specs.Logged.{logs}
 use Rattle.pipeline.specs.Theorem.{Entries, no_entries, followed_by, entries_of, Calls, none, run}
 use Rattle.pipeline.specs.declared.journal.Journal.{Journal}
 use Rattle.pipeline.specs.declared.machine.Machine.{Machine}
 use Rattle.pipeline.specs.declared.machine.RetiredAt.{RetiredAt}
 use Rattle.pipeline.specs.declared.machine.Run.{Run}
-use Rattle.pipeline.proofs.Runs.{says_no}
+use Rattle.pipeline.proofs.RunFacts.{clocks_on, held_on, not_past, ended_why, events_counted}
 use Rattle.clocktable.specs.Tables.{two_tables}
 use Rattle.longrun.specs.Gaps.{none_yet, gaps_after}
 use Rattle.longrun.specs.LongRuns.{RanTo}
 use Rattle.longrun.specs.declared.gaps.Gaps.{Gaps}
-use Rattle.longrun.proofs.Stretches.{clocks_on, held_on, not_past}
 use Rattle.setup.specs.declared.choice.Setup.{Setup}
 use Rattle.report.specs.Finishing.{Finished}
 use Rattle.report.specs.Lines.{report_text}
@@ -30,71 +25,29 @@ use Rattle.report.specs.Timings.{outcomes_of, tables_if, Shown}
 use Rattle.report.specs.declared.lines.Longest.{Longest}
 use Rattle.report.specs.declared.lines.Outcomes.{Outcomes}
 
--- an event adds one clock, and at most one retirement
-one_at_most : (clock : ℕ) (o : Option Retirement) → length (retired_at clock o) ≤ 1
-one_at_most clock None = omega arith
-one_at_most clock (Some r) = omega arith
-
-retired_few : (es : List Event) → length (retired_entries es) ≤ length es
-retired_few [] = omega arith
-retired_few (e ∷ es) =
-    let one = one_at_most e.clock.clock e.retirement in
-    let rest = retired_few es in
-    let sum = length-append (retired_at e.clock.clock e.retirement) (retired_entries es) in omega arith
-
-clocks_many : (es : List Event) → length (clock_entries es) ≡ length es
-clocks_many [] = refl
-clocks_many (e ∷ es) = let rest = clocks_many es in omega arith
-
--- with no slot left in logs of n, n clocks were made at least
-all_filled : (n : ℕ) (a : List RetiredAt) (b : List ClockRecord) (es : List Event) → length a ≡ n → length b ≡ n → is_full (logged (empty_logs a b) es) ≡ true → n ≤ length es
-all_filled n a b es la lb full =
-    let few = retired_few es in
-    let many = clocks_many es in
-    let ra = length-drop (length (retired_entries es)) a in
-    let rb = length-drop (length (clock_entries es)) b in grind (arith, nat_tests)
-
--- the machine that is not held, over logs with room for all, ends at the limit or stopped
-ended_why : {P I D : Type 0} (n : ℕ) (a : List RetiredAt) (b : List ClockRecord) (es : List Event) (p : Machine P I D) (made why : ℕ) → length a ≡ n → length b ≡ n
-    → Ended (logged (empty_logs a b) es) p n made why → p.held ≡ false → length es ≡ made → p.core.counts.clocks ≡ made → n ≤ 4294967295
-    → (is_stopped p ≡ true) ⊎ (n ≤ p.core.counts.clocks)
-ended_why n a b es p made zero la lb e h k c bound = let all = e.0 in inr (omega arith)
-ended_why n a b es p made (suc why) la lb e h k c bound =
-    ⊎_elim (λ x. absurd (true≢false (sym x ∙ h)))
-    (⊎_elim (λ x. inl x)
-    (⊎_elim (λ x. let full = all_filled n a b es la lb x in inr (omega arith))
-    (λ x. let spent = eqb-true p.core.counts.clocks 4294967295 x in inr (omega arith))))
-    (says_no (is_full (logged (empty_logs a b) es)) p (λ z. let some = e.1 in omega arith))
-
-module _ {P I D : Type 0} (table : Table P) (instructions : Meaning I) (words : Meaning D) where
-  events_counted : (l : Logs) (m : Machine P I D) (k : ℕ) (es : List Event) (n : Machine P I D) → Clocks table instructions words l m k es n → length es ≡ k
-  events_counted l m k es n start = refl
-  events_counted l m k es n (next {k = i} {es = fs} {n = p} e q c f t) =
-      let before = events_counted l m i fs p c in
-      let sum = length-append fs (e ∷ []) in omega arith
-
+module _ {P I D : Type 0} (table : TableOf P) (instructions : Meaning I) (data_memory : Meaning D) where
   -- what a run over logs with room for all of it comes to: its history is what the logs hold
   pub record Whole (n : ℕ) (first last : Machine P I D) (rs : List RetiredAt) (cs : List ClockRecord) : Type 0 where
     pub history : List Event
     pub put : Entries
-    pub calls : Calls table instructions words first history put last
+    pub calls : Calls table instructions data_memory first history put last
     pub finished : first.held ≡ false → first.core.counts.clocks ≡ 0 → Finished n last
-    pub retired_so : rs ≡ retired_entries history
-    pub clocks_so : cs ≡ clock_entries history
+    pub retired : rs ≡ retired_entries history
+    pub clocks : cs ≡ clock_entries history
 
   pub whole_run : (n : ℕ) (a : List RetiredAt) (b : List ClockRecord) (before after : Journal) (first last : Machine P I D) (r : Run) → n ≤ 4294967295 → logs before ≡ empty_logs a b
-      → length a ≡ n → length b ≡ n → RanInto table instructions words (logs before) first n r (logs after) last
+      → length a ≡ n → length b ≡ n → RunInto table instructions data_memory (logs before) first n r (logs after) last
       → Whole n first last (records after.retirements) (records after.clocks)
   whole_run n a b before after first last r bound empty la lb ran =
       let es = ran.0 in
-      let P : Logs → Type 0 = λ l. Ran table instructions words l first n r es (logs after) last in
+      let P : Logs → Type 0 = λ l. RunCall table instructions data_memory l first n r es (logs after) last in
       let made : P (empty_logs a b) = subst P empty ran.1 in
       let l = empty_logs a b in
-      let filled : logs after ≡ logged l es = made.1 in
-      let fulls : List Event → Bool = λ x. is_full (logged l x) in
-      let on = clocks_on table instructions words fulls first n r es (is_full (logs after)) last made.0 made.2 in
-      let past = not_past table instructions words fulls first n r es (is_full (logs after)) last made.0 made.2 in
-      let counted = events_counted l first r.made es last made.0 in
+      let filled : logs after ≡ with_events l es = made.1 in
+      let fulls : List Event → Bool = λ x. is_full (with_events l x) in
+      let on = clocks_on table instructions data_memory fulls first n r es (is_full (logs after)) last made.0 made.2 in
+      let past = not_past table instructions data_memory fulls first n r es (is_full (logs after)) last made.0 made.2 in
+      let counted = events_counted table instructions data_memory l first r.made es last made.0 in
       let Q : Logs → Type 0 = λ j. Ended j last n r.made (reason r.why) in
       record {
         history = es;
@@ -104,19 +57,19 @@ module _ {P I D : Type 0} (table : Table P) (instructions : Meaning I) (words : 
         finished = λ held zero. record {
           within = omega arith;
           ended = ended_why n a b es last r.made (reason r.why) la lb (subst Q filled made.2)
-              (held_on table instructions words fulls first n r es (is_full (logs after)) last made.0 made.2 ∙ held) counted (omega arith) bound;
+              (held_on table instructions data_memory fulls first n r es (is_full (logs after)) last made.0 made.2 ∙ held) counted (omega arith) bound;
         };
-        retired_so = ap (λ (x : Logs). x.retired.records) filled;
-        clocks_so = ap (λ (x : Logs). x.clocks.records) filled;
+        retired = ap (λ (x : Logs). x.retired.records) filled;
+        clocks = ap (λ (x : Logs). x.clocks.records) filled;
       }
 
   module _ (s : Setup) (w : Longest) (first last : Machine P I D) where
     -- with no log
-    pub unlogged_shown : (g k : Gaps) (o : Outcomes) (text : List ℕ) → s.log ≡ false → g ≡ none_yet → RanTo table instructions words s.clocks first g last k → o ≡ outcomes_of last k
-        → text ≡ report_text s w o → Shown table instructions words s w first text
+    pub unlogged_shown : (g k : Gaps) (o : Outcomes) (text : List ℕ) → s.log ≡ false → g ≡ none_yet → RanTo table instructions data_memory s.clocks first g last k → o ≡ outcomes_of last k
+        → text ≡ report_text s w o → Shown table instructions data_memory s w first text
     unlogged_shown g k o text unasked fresh ran oe te =
         let h = ran.reached.history in
-        let gaps : k ≡ gaps_after none_yet (retired_entries h) = ran.reached.gaps_so ∙ ap (λ (x : Gaps). gaps_after x (retired_entries h)) fresh in
+        let gaps : k ≡ gaps_after none_yet (retired_entries h) = ran.reached.gaps ∙ ap (λ (x : Gaps). gaps_after x (retired_entries h)) fresh in
         record {
           history = h;
           put = ran.reached.put;
@@ -133,10 +86,10 @@ module _ {P I D : Type 0} (table : Table P) (instructions : Meaning I) (words : 
 
     -- with every clock in the logs
     pub logged_shown : (g : Gaps) (o : Outcomes) (rs : List RetiredAt) (cs : List ClockRecord) (text : List ℕ) → s.log ≡ true → Whole s.clocks first last rs cs → g ≡ gaps_after none_yet rs
-        → o ≡ outcomes_of last g → text ≡ two_tables rs cs ++ report_text s w o → Shown table instructions words s w first text
+        → o ≡ outcomes_of last g → text ≡ two_tables rs cs ++ report_text s w o → Shown table instructions data_memory s w first text
     logged_shown g o rs cs text asked whole ge oe te =
         let h = whole.history in
-        let gaps : g ≡ gaps_after none_yet (retired_entries h) = ge ∙ ap (gaps_after none_yet) whole.retired_so in
+        let gaps : g ≡ gaps_after none_yet (retired_entries h) = ge ∙ ap (gaps_after none_yet) whole.retired in
         record {
           history = h;
           put = whole.put;
@@ -144,6 +97,6 @@ module _ {P I D : Type 0} (table : Table P) (instructions : Meaning I) (words : 
           calls = whole.calls;
           finished = whole.finished;
           shown =
-              te ∙ (λ k. two_tables (whole.retired_so k) (whole.clocks_so k) ++ report_text s w ((oe ∙ ap (outcomes_of last) gaps) k))
+              te ∙ (λ k. two_tables (whole.retired k) (whole.clocks k) ++ report_text s w ((oe ∙ ap (outcomes_of last) gaps) k))
               ∙ ap (λ (b : Bool). tables_if b h ++ report_text s w (outcomes_of last (gaps_after none_yet (retired_entries h)))) (sym asked);
         }

@@ -3,7 +3,7 @@ use Rattle.std.specs.Prelude.{◌≡◌, ℕ, ◌≤◌, List, length, replicate
 use Rattle.std.specs.declared.alloc.Global.{Global}
 use Rattle.base.specs.Failures.{FailureSays}
 use Rattle.base.specs.declared.failure.Failure.{Failure}
-use Rattle.memory.specs.Flat.{flat_means}
+use Rattle.memory.specs.Flat.{flat_bytes, flat_size, flat_means}
 use Rattle.memory.specs.declared.flat.Flat.{Flat}
 use Rattle.predictor.specs.Tables.{never}
 use Rattle.predictor.specs.declared.never.Never.{Never}
@@ -12,7 +12,7 @@ use Rattle.pipeline.specs.Calls.{Loaded, retired_entries, clock_entries}
 use Rattle.pipeline.specs.Readings.{totals}
 use Rattle.pipeline.specs.Theorem.{Agrees, Entries, Calls}
 use Rattle.pipeline.specs.declared.machine.Machine.{Machine}
-use Rattle.listing.specs.Images.{padded_image, TooLong}
+use Rattle.image.specs.Images.{padded_image, TooLong}
 use Rattle.clocktable.specs.Tables.{clock_table}
 use Rattle.report.specs.Finishing.{Finished}
 
@@ -20,13 +20,13 @@ use Rattle.report.specs.Finishing.{Finished}
 pub record ClockPrinted (image text : List ℕ) : Type 0 where
   pub predictor : Never
   pub instructions : Flat
-  pub words : Flat
-  pub image_so : vec_items instructions.bytes ≡ image
-  pub image_whole : instructions.size ≡ length image
-  pub data_so : vec_items words.bytes ≡ replicate 4096 0
-  pub data_whole : words.size ≡ 4096
+  pub data_memory : Flat
+  pub holds_image : vec_items (flat_bytes instructions) ≡ image
+  pub image_whole : flat_size instructions ≡ length image
+  pub holds_zeros : vec_items (flat_bytes data_memory) ≡ replicate 4096 0
+  pub data_whole : flat_size data_memory ≡ 4096
   pub first : Machine Never Flat Flat
-  pub loaded : Loaded instructions.size 0 0 predictor instructions words first
+  pub loaded : Loaded (flat_size instructions) 0 0 predictor instructions data_memory first
   pub agrees : Agrees (λ _. never) flat_means flat_means first
   pub history : List Event
   pub put : Entries

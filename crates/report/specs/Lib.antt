@@ -1,5 +1,4 @@
 pub mod Clocklogs
-pub mod Endings
 pub mod Finishing
 pub mod Lines
 pub mod Timings

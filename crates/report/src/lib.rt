@@ -2,6 +2,6 @@
 #![tactic(auto)]
 
 pub mod clocklog;
-pub mod ending;
+pub mod endings;
 pub mod lines;
 pub mod timing;

@@ -1,9 +1,9 @@
 //! The lines of a report.
 ghost use Rattle.std.specs.Prelude.{◌≡◌, ◌+◌, IfOk, Some, string_bytes};
-ghost use Rattle.report.specs.Lines.{setup_lines, bounds_line, totals_line, gap_line, within, report_text};
+ghost use Rattle.report.specs.Lines.{setup_lines, bounds_line, totals_line, gap_line, bound, report_text};
 
-use listing::records::EndText;
 use pipeline::machine::Totals;
+use seqtable::records::EndText;
 use sequential::record::Stop;
 use setup::choice::Setup;
 use std::alloc::{AllocError, Global};
@@ -13,19 +13,19 @@ use std::fmt;
 #[derive(Clone, Copy)]
 pub struct Longest {
     pub instructions: u32,
-    pub data: u32,
+    pub data_memory: u32,
 }
 
 impl Longest {
     /// The longest waits of both together, and so many clocks more.
-    fn within(self, more: u32) -> u64
-        ensures { result ≡ self.instructions + self.«data» + more }
+    fn bound(self, more: u32) -> u64
+        ensures { result ≡ self.instructions + self.data_memory + more }
     {
-        u64::from(self.instructions) + u64::from(self.data) + u64::from(more)
+        u64::from(self.instructions) + u64::from(self.data_memory) + u64::from(more)
     }
 }
 
-/// What a run came to.
+/// The counts, the longest gap and the stop of a run.
 #[derive(Clone, Copy)]
 pub struct Outcomes {
     pub counts: Totals,
@@ -46,7 +46,11 @@ impl fmt::Display for SetupLines {
         write!(
             f,
             "predictor {}\ninstructions {} longest {}\ndata {} longest {}\n",
-            setup.predictor, setup.instructions, longest.instructions, setup.data, longest.data
+            setup.predictor,
+            setup.instructions,
+            longest.instructions,
+            setup.data_memory,
+            longest.data_memory
         )
     }
 }
@@ -56,19 +60,19 @@ impl fmt::Display for SetupLines {
 struct BoundsLine(Longest);
 
 impl fmt::Display for BoundsLine {
-    ghost output = { λ x. Some (bounds_line (within x.0 5) (within x.0 3)) };
+    ghost output = { λ x. Some (bounds_line (bound x.0 5) (bound x.0 3)) };
 
     fn fmt<W: fmt::Write>(&self, f: &mut fmt::Formatter<W>) -> fmt::Result {
         writeln!(
             f,
             "first retirement within {} clocks, each next within {}",
-            self.0.within(5),
-            self.0.within(3)
+            self.0.bound(5),
+            self.0.bound(3)
         )
     }
 }
 
-/// How many clocks there were, and what became of the instructions.
+/// The clocks, and the instructions fetched, retired, dropped and in flight.
 #[derive(Clone, Copy)]
 struct TotalsLine(Totals);
 
@@ -97,7 +101,7 @@ impl fmt::Display for GapLine {
     }
 }
 
-/// The report of a run: the set-up, the longest waits that its memories state, and what it came to.
+/// The report of a run: the set-up, the longest waits that its memories state, and its outcomes.
 #[derive(Clone, Copy)]
 pub struct ReportText {
     pub setup: Setup,

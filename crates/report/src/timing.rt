@@ -2,6 +2,7 @@
 
 mod answer;
 mod assembly;
+mod over;
 mod running;
 
 pub use answer::timing_of;

@@ -1,5 +1,6 @@
 -- An instruction laid out flat is the instruction. Assumes nothing.
-use Rattle.std.proofs.Common.{◌≡◌, ℕ, ◌^◌, ◌<◌, Bool, true, false, cond, eqb, to_z, Some, None, sym, refl, ap, arith}
+use Rattle.std.proofs.Common.{◌≡◌, ℕ, ◌^◌, ◌<◌, Bool, true, false, eqb, to_z, Some, None, sym, refl, ap, arith}
+use Rattle.std.specs.Prelude.{if◌then◌else◌}
 use Rattle.std.proofs.lemmas.Bool.{eqb-true}
 use Rattle.std.proofs.lemmas.Int.{of_z-to_z, to_z-of_z}
 use Rattle.std.specs.Int.{w32}
@@ -14,7 +15,7 @@ use Rattle.rv32i.proofs.Numbered.{same_number}
 pub bits_kept : (n : ℕ) → n < 2 ^ 32 → bits_of (to_z w32 n) ≡ n
 bits_kept n h = of_z-to_z w32 n h
 
-register_kept_by : (r : Reg) (b : Bool) → eqb r.number 0 ≡ b → or_x0 (cond b None (Some r)) ≡ r
+register_kept_by : (r : Reg) (b : Bool) → eqb r.number 0 ≡ b → or_x0 (if b then None else Some r) ≡ r
 register_kept_by r true e = same_number (register 0) r (sym (eqb-true r.number 0 e))
 register_kept_by r false e = refl
 

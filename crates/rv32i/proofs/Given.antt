@@ -1,30 +1,32 @@
 -- What is given by a cause's number is given by the cause. Assumes nothing.
-use Rattle.std.proofs.Common.{◌≡◌, ℕ, cond, eqb, Ok, Err, Result, sym, refl, ap, ◌∙◌}
+use Rattle.std.proofs.Common.{◌≡◌, ℕ, Ok, Err, Result, sym, refl, ap, ◌∙◌}
+use Rattle.std.specs.Prelude.{if◌then◌else◌, ◌==◌}
 use Rattle.rv32i.specs.Causes.{cause_number, Gives}
 use Rattle.rv32i.specs.declared.cause.Cause.{Cause}
-use Rattle.rv32i.specs.declared.cause.Cause.TheVariants.{JumpMisaligned, FetchOutside, Illegal, Breakpoint, LoadMisaligned, LoadOutside, StoreMisaligned, StoreOutside, EnvironmentCall}
+use Rattle.rv32i.specs.declared.cause.Cause.TheVariants.{InstructionMisaligned, InstructionAccessFault, IllegalInstruction, Breakpoint, LoadMisaligned, LoadAccessFault, StoreMisaligned, StoreAccessFault, EnvironmentCall}
 
 -- the cause of a number
 abbrev cause_of : ℕ → Cause
 cause_of n =
-    cond (eqb n 0) JumpMisaligned
-    (cond (eqb n 1) FetchOutside
-    (cond (eqb n 2) Illegal
-    (cond (eqb n 3) Breakpoint
-    (cond (eqb n 4) LoadMisaligned
-    (cond (eqb n 5) LoadOutside
-    (cond (eqb n 6) StoreMisaligned
-    (cond (eqb n 7) StoreOutside EnvironmentCall)))))))
+    if n == 0 then InstructionMisaligned
+    else if n == 1 then InstructionAccessFault
+    else if n == 2 then IllegalInstruction
+    else if n == 3 then Breakpoint
+    else if n == 4 then LoadMisaligned
+    else if n == 5 then LoadAccessFault
+    else if n == 6 then StoreMisaligned
+    else if n == 7 then StoreAccessFault
+    else EnvironmentCall
 
 numbered_back : (c : Cause) → cause_of (cause_number c) ≡ c
-numbered_back JumpMisaligned = refl
-numbered_back FetchOutside = refl
-numbered_back Illegal = refl
+numbered_back InstructionMisaligned = refl
+numbered_back InstructionAccessFault = refl
+numbered_back IllegalInstruction = refl
 numbered_back Breakpoint = refl
 numbered_back LoadMisaligned = refl
-numbered_back LoadOutside = refl
+numbered_back LoadAccessFault = refl
 numbered_back StoreMisaligned = refl
-numbered_back StoreOutside = refl
+numbered_back StoreAccessFault = refl
 numbered_back EnvironmentCall = refl
 
 -- causes of one number are one cause

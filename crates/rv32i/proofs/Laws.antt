@@ -1,5 +1,6 @@
 -- What the machines above use of the pieces of an instruction. Assumes nothing.
-use Rattle.std.proofs.Common.{◌≡◌, ℕ, ◌%◌, Bool, true, false, cond, eqb, ◌≢◌, Some, None, Ok, Err, Option, Result, refl, arith}
+use Rattle.std.proofs.Common.{◌≡◌, ℕ, ◌%◌, Bool, true, false, eqb, ◌≢◌, Some, None, Ok, Err, Option, Result, refl, arith}
+use Rattle.std.specs.Prelude.{if◌then◌else◌}
 use Rattle.std.proofs.lemmas.Bool.Decides.{nat_tests}
 use Rattle.std.proofs.lemmas.Bool.{eqb-false}
 use Rattle.base.specs.Bytes.{within}
@@ -39,7 +40,7 @@ abbrev pub NotX0 : Option Reg → Type 0
 NotX0 None = Unit {0}
 NotX0 (Some r) = r.number ≢ 0
 
-not_x0_by : (r : Reg) (b : Bool) → eqb r.number 0 ≡ b → NotX0 (cond b None (Some r))
+not_x0_by : (r : Reg) (b : Bool) → eqb r.number 0 ≡ b → NotX0 (if b then None else Some r)
 not_x0_by r true e = tt
 not_x0_by r false e = eqb-false r.number 0 e
 

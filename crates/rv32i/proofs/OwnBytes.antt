@@ -1,5 +1,6 @@
 -- Loads and stores find and put their own bytes. Assumes nothing.
-use Rattle.std.proofs.Common.{◌≡◌, ℕ, zero, suc, ◌+◌, ◌*◌, ◌/◌, ◌%◌, ◌^◌, ◌<◌, ◌≤◌, Bool, true, false, cond, eqb, ltb, Some, Ok, Err, refl, ap, ◌∙◌, subst, arith}
+use Rattle.std.proofs.Common.{◌≡◌, ℕ, zero, suc, ◌+◌, ◌*◌, ◌/◌, ◌%◌, ◌^◌, ◌<◌, ◌≤◌, Bool, true, false, eqb, ltb, Some, Ok, Err, refl, ap, ◌∙◌, subst, arith}
+use Rattle.std.specs.Prelude.{if◌then◌else◌}
 use Rattle.std.proofs.lemmas.Int.{ints}
 use Rattle.std.proofs.lemmas.Bool.{eqb-true}
 use Rattle.std.proofs.lemmas.Bool.Decides.{nat_tests}
@@ -13,7 +14,7 @@ use Rattle.rv32i.specs.declared.instruction.LoadKind.{LoadKind}
 use Rattle.rv32i.specs.declared.instruction.LoadKind.TheVariants.{Byte, Half, Word, ByteUnsigned, HalfUnsigned}
 use Rattle.rv32i.specs.declared.instruction.StoreKind.{StoreKind}
 use Rattle.rv32i.specs.declared.instruction.StoreKind.TheVariants.{Byte as ByteStored, Half as HalfStored, Word as WordStored}
-use Rattle.rv32i.specs.Bytewise.{little, extended, value_of, LoadsItsBytes, Stored, StoresItsBytes}
+use Rattle.rv32i.specs.Bytewise.{little_endian, sign_extended, load_value, LoadsItsBytes, Stored, StoresItsBytes}
 use Rattle.rv32i.specs.Effects.{word_address, lanes_of, load_width, store_width, request, loaded}
 use Rattle.rv32i.specs.Signs.{signed, bits_of}
 
@@ -26,7 +27,7 @@ by_place P a b c d (suc (suc (suc zero))) h = d
 by_place P a b c d (suc (suc (suc (suc r)))) h = absurd (omega arith)
 
 -- what is known of a request that is accepted
-accepts : (q p : Request) (misaligned outside : Cause) (b d : Bool) → cond b (cond d (Ok (Some q)) (Err outside)) (Err misaligned) ≡ Ok (Some p)
+accepts : (q p : Request) (misaligned outside : Cause) (b d : Bool) → (if b then (if d then Ok (Some q) else Err outside) else Err misaligned) ≡ Ok (Some p)
     → (b ≡ true) × (q ≡ p)
 accepts q p misaligned outside true true e = (refl, cc)
 accepts q p misaligned outside true false e = (refl, cc)
@@ -34,10 +35,10 @@ accepts q p misaligned outside false d e = absurd cc
 
 -- ---- loads
 
-extended_8 : (n : ℕ) → n < 256 → bits_of (signed (2 ^ 7) n) ≡ extended 128 n
+extended_8 : (n : ℕ) → n < 256 → bits_of (signed (2 ^ 7) n) ≡ sign_extended 128 n
 extended_8 n h = grind (arith, ints, nat_tests)
 
-extended_16 : (n : ℕ) → n < 65536 → bits_of (signed (2 ^ 15) n) ≡ extended 32768 n
+extended_16 : (n : ℕ) → n < 65536 → bits_of (signed (2 ^ 15) n) ≡ sign_extended 32768 n
 extended_16 n h = grind (arith, ints, nat_tests)
 
 module _ (bytes : ℕ → ℕ) (small : (y : ℕ) → bytes y < 256) (x : ℕ) where
@@ -50,24 +51,24 @@ module _ (bytes : ℕ → ℕ) (small : (y : ℕ) → bytes y < 256) (x : ℕ) w
       (λ e. grind (arith, small))
       (λ e. grind (arith, small))
 
-  two_bytes : (a r : ℕ) → r < 4 → x ≡ a + r → r % 2 ≡ 0 → word bytes a / 2 ^ (8 * r) % 2 ^ 16 ≡ little bytes x 2
+  two_bytes : (a r : ℕ) → r < 4 → x ≡ a + r → r % 2 ≡ 0 → word bytes a / 2 ^ (8 * r) % 2 ^ 16 ≡ little_endian bytes x 2
   two_bytes a =
-      by_place (λ (r : ℕ). x ≡ a + r → r % 2 ≡ 0 → word bytes a / 2 ^ (8 * r) % 2 ^ 16 ≡ little bytes x 2)
+      by_place (λ (r : ℕ). x ≡ a + r → r % 2 ≡ 0 → word bytes a / 2 ^ (8 * r) % 2 ^ 16 ≡ little_endian bytes x 2)
       (λ e m. grind (arith, small))
       (λ e m. absurd (omega arith))
       (λ e m. grind (arith, small))
       (λ e m. absurd (omega arith))
 
-  four_bytes : (a r : ℕ) → x ≡ a + r → r ≡ 0 → word bytes a / 2 ^ (8 * r) ≡ little bytes x 4
+  four_bytes : (a r : ℕ) → x ≡ a + r → r ≡ 0 → word bytes a / 2 ^ (8 * r) ≡ little_endian bytes x 4
   four_bytes a r e z = rw z (grind (arith, small))
 
-  loads_at : (k : LoadKind) → x % load_width k ≡ 0 → loaded (Some (Load k)) x (word bytes (word_address x)) ≡ value_of k (little bytes x (load_width k))
+  loads_at : (k : LoadKind) → x % load_width k ≡ 0 → loaded (Some (Load k)) x (word bytes (word_address x)) ≡ load_value k (little_endian bytes x (load_width k))
   unfolding loaded
   loads_at Byte h =
-      let i : bytes x ≡ little bytes x 1 = omega arith in
-      rw (one_byte (word_address x) (x % 4) (omega arith) (omega arith)) (extended_8 (bytes x) (small x) ∙ ap (extended 128) i)
+      let i : bytes x ≡ little_endian bytes x 1 = omega arith in
+      rw (one_byte (word_address x) (x % 4) (omega arith) (omega arith)) (extended_8 (bytes x) (small x) ∙ ap (sign_extended 128) i)
   loads_at Half h =
-      rw (two_bytes (word_address x) (x % 4) (omega arith) (omega arith) (omega arith)) (extended_16 (little bytes x 2) (omega (arith, small x, small (x + 1))))
+      rw (two_bytes (word_address x) (x % 4) (omega arith) (omega arith) (omega arith)) (extended_16 (little_endian bytes x 2) (omega (arith, small x, small (x + 1))))
   loads_at Word h = four_bytes (word_address x) (x % 4) (omega arith) h
   loads_at ByteUnsigned h = one_byte (word_address x) (x % 4) (omega arith) (omega arith) ∙ omega arith
   loads_at HalfUnsigned h = two_bytes (word_address x) (x % 4) (omega arith) (omega arith) (omega arith)
@@ -117,20 +118,28 @@ abbrev word_lanes : Lanes
 word_lanes = record { b0 = true; b1 = true; b2 = true; b3 = true }
 
 module _ (bytes : ℕ → ℕ) (x b : ℕ) where
+  byte_at : (a r : ℕ) → put bytes a (shifted b r) (byte_lanes r) x ≡ b % 256
+      → ((y : ℕ) → (x ≤ y → y < x + 1 → ⊥) → put bytes a (shifted b r) (byte_lanes r) y ≡ bytes y) → Stored bytes (put bytes a (shifted b r) (byte_lanes r)) x 1 b
+  byte_at a r e = stored bytes (put bytes a (shifted b r) (byte_lanes r)) x b 1 (one bytes (put bytes a (shifted b r) (byte_lanes r)) x b e)
+
   byte_stored : (a r : ℕ) → r < 4 → x ≡ a + r → Stored bytes (put bytes a (shifted b r) (byte_lanes r)) x 1 b
   byte_stored a =
       by_place (λ (r : ℕ). x ≡ a + r → Stored bytes (put bytes a (shifted b r) (byte_lanes r)) x 1 b)
-      (λ e. stored bytes (put bytes a (shifted b 0) (byte_lanes 0)) x b 1 (one bytes (put bytes a (shifted b 0) (byte_lanes 0)) x b (grind (arith, nat_tests))) (λ y h. grind (arith, nat_tests)))
-      (λ e. stored bytes (put bytes a (shifted b 1) (byte_lanes 1)) x b 1 (one bytes (put bytes a (shifted b 1) (byte_lanes 1)) x b (grind (arith, nat_tests))) (λ y h. grind (arith, nat_tests)))
-      (λ e. stored bytes (put bytes a (shifted b 2) (byte_lanes 2)) x b 1 (one bytes (put bytes a (shifted b 2) (byte_lanes 2)) x b (grind (arith, nat_tests))) (λ y h. grind (arith, nat_tests)))
-      (λ e. stored bytes (put bytes a (shifted b 3) (byte_lanes 3)) x b 1 (one bytes (put bytes a (shifted b 3) (byte_lanes 3)) x b (grind (arith, nat_tests))) (λ y h. grind (arith, nat_tests)))
+      (λ e. byte_at a 0 (grind (arith, nat_tests)) (λ y h. grind (arith, nat_tests)))
+      (λ e. byte_at a 1 (grind (arith, nat_tests)) (λ y h. grind (arith, nat_tests)))
+      (λ e. byte_at a 2 (grind (arith, nat_tests)) (λ y h. grind (arith, nat_tests)))
+      (λ e. byte_at a 3 (grind (arith, nat_tests)) (λ y h. grind (arith, nat_tests)))
+
+  half_at : (a r : ℕ) → put bytes a (shifted b r) (half_lanes r) x ≡ b % 256 → put bytes a (shifted b r) (half_lanes r) (x + 1) ≡ b / 256 % 256
+      → ((y : ℕ) → (x ≤ y → y < x + 2 → ⊥) → put bytes a (shifted b r) (half_lanes r) y ≡ bytes y) → Stored bytes (put bytes a (shifted b r) (half_lanes r)) x 2 b
+  half_at a r e f = stored bytes (put bytes a (shifted b r) (half_lanes r)) x b 2 (two bytes (put bytes a (shifted b r) (half_lanes r)) x b e f)
 
   half_stored : (a r : ℕ) → r < 4 → x ≡ a + r → r % 2 ≡ 0 → Stored bytes (put bytes a (shifted b r) (half_lanes r)) x 2 b
   half_stored a =
       by_place (λ (r : ℕ). x ≡ a + r → r % 2 ≡ 0 → Stored bytes (put bytes a (shifted b r) (half_lanes r)) x 2 b)
-      (λ e m. stored bytes (put bytes a (shifted b 0) (half_lanes 0)) x b 2 (two bytes (put bytes a (shifted b 0) (half_lanes 0)) x b (grind (arith, nat_tests)) (grind (arith, nat_tests))) (λ y h. grind (arith, nat_tests)))
+      (λ e m. half_at a 0 (grind (arith, nat_tests)) (grind (arith, nat_tests)) (λ y h. grind (arith, nat_tests)))
       (λ e m. absurd (omega arith))
-      (λ e m. stored bytes (put bytes a (shifted b 2) (half_lanes 2)) x b 2 (two bytes (put bytes a (shifted b 2) (half_lanes 2)) x b (grind (arith, nat_tests)) (grind (arith, nat_tests))) (λ y h. grind (arith, nat_tests)))
+      (λ e m. half_at a 2 (grind (arith, nat_tests)) (grind (arith, nat_tests)) (λ y h. grind (arith, nat_tests)))
       (λ e m. absurd (omega arith))
 
   word_stored : (a r : ℕ) → x ≡ a + r → r ≡ 0 → Stored bytes (put bytes a (shifted b r) word_lanes) x 4 b

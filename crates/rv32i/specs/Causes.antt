@@ -2,17 +2,17 @@
 use Rattle.std.specs.Prelude.{◌≡◌, ℕ, Ok, Err, Result}
 use Rattle.base.specs.Refusals.{Answers}
 use Rattle.rv32i.specs.declared.cause.Cause.{Cause}
-use Rattle.rv32i.specs.declared.cause.Cause.TheVariants.{JumpMisaligned, FetchOutside, Illegal, Breakpoint, LoadMisaligned, LoadOutside, StoreMisaligned, StoreOutside, EnvironmentCall}
+use Rattle.rv32i.specs.declared.cause.Cause.TheVariants.{InstructionMisaligned, InstructionAccessFault, IllegalInstruction, Breakpoint, LoadMisaligned, LoadAccessFault, StoreMisaligned, StoreAccessFault, EnvironmentCall}
 
 abbrev pub cause_number : Cause → ℕ
-cause_number JumpMisaligned = 0
-cause_number FetchOutside = 1
-cause_number Illegal = 2
+cause_number InstructionMisaligned = 0
+cause_number InstructionAccessFault = 1
+cause_number IllegalInstruction = 2
 cause_number Breakpoint = 3
 cause_number LoadMisaligned = 4
-cause_number LoadOutside = 5
+cause_number LoadAccessFault = 5
 cause_number StoreMisaligned = 6
-cause_number StoreOutside = 7
+cause_number StoreAccessFault = 7
 cause_number EnvironmentCall = 11
 
 -- What an answer says that has a cause to stop or a value: the values that may come with it, and the numbers of the causes.

@@ -1,5 +1,5 @@
 -- What each instruction does, from the manual. Numbers are the 32 bits of a register or an address; sums wrap. Assumes nothing.
-use Rattle.std.specs.Prelude.{ℕ, ◌+◌, ◌-◌, ◌*◌, ◌/◌, ◌%◌, ◌^◌, Bool, true, false, cond, not, ℤ, Some, None, Ok, Err, Option, Result, ◌==◌, bit_and, bit_or, bit_xor, int_lt, nat_lt}
+use Rattle.std.specs.Prelude.{ℕ, ◌+◌, ◌-◌, ◌*◌, ◌/◌, ◌%◌, ◌^◌, Bool, true, false, if◌then◌else◌, not, ℤ, Some, None, Ok, Err, Option, Result, ◌==◌, bit_and, bit_or, bit_xor, int_lt, nat_lt}
 use Rattle.std.specs.Int.Signed.{shr_z}
 use Rattle.std.proofs.Common.{to_z, of_z}
 use Rattle.std.specs.Int.{w32}
@@ -8,7 +8,7 @@ use Rattle.base.specs.declared.bus.Lanes.{Lanes}
 use Rattle.base.specs.declared.bus.Request.{Request}
 use Rattle.base.specs.declared.bus.Request.TheVariants.{Read, Write}
 use Rattle.rv32i.specs.declared.cause.Cause.{Cause}
-use Rattle.rv32i.specs.declared.cause.Cause.TheVariants.{JumpMisaligned, LoadMisaligned, LoadOutside, StoreMisaligned, StoreOutside}
+use Rattle.rv32i.specs.declared.cause.Cause.TheVariants.{InstructionMisaligned, LoadMisaligned, LoadAccessFault, StoreMisaligned, StoreAccessFault}
 use Rattle.rv32i.specs.declared.register.Register.{Register as Reg}
 use Rattle.rv32i.specs.declared.effect.Effect.{Effect}
 use Rattle.rv32i.specs.declared.effect.Access.{Access}
@@ -26,16 +26,13 @@ use Rattle.rv32i.specs.declared.instruction.ShiftOp.TheVariants.{Sll as SllImm, 
 use Rattle.rv32i.specs.declared.instruction.RegisterOp.{RegisterOp}
 use Rattle.rv32i.specs.declared.instruction.RegisterOp.TheVariants.{Add, Sub, Sll, Slt, Sltu, Xor, Srl, Sra, Or, And}
 use Rattle.rv32i.specs.declared.instruction.Instruction.{Instruction}
-use Rattle.rv32i.specs.declared.instruction.Instruction.TheVariants.{Lui, Auipc, Jal, Jalr, Branch, Load, Store, Immediate, Shift, Register, Fence, Ecall, Ebreak}
+use Rattle.rv32i.specs.declared.instruction.Instruction.TheVariants.{Lui, Auipc, Jal, Jalr, Branch, Load, Store, Immediate, Shift, Register}
 use Rattle.rv32i.specs.Signs.{signed, bits_of}
 use Rattle.rv32i.specs.Registers.{nonzero}
 
 -- ---- registers: none where it reads or writes nothing
 
 unfoldable pub first_source : Instruction → Option Reg
-first_source (Lui d v) = None
-first_source (Auipc d v) = None
-first_source (Jal d z) = None
 first_source (Jalr d r z) = nonzero r
 first_source (Branch c r q z) = nonzero r
 first_source (Load k d r z) = nonzero r
@@ -43,39 +40,24 @@ first_source (Store k r q z) = nonzero r
 first_source (Immediate o d r z) = nonzero r
 first_source (Shift o d r n) = nonzero r
 first_source (Register o d r q) = nonzero r
-first_source Fence = None
-first_source Ecall = None
-first_source Ebreak = None
+first_source _ = None
 
 unfoldable pub second_source : Instruction → Option Reg
-second_source (Lui d v) = None
-second_source (Auipc d v) = None
-second_source (Jal d z) = None
-second_source (Jalr d r z) = None
 second_source (Branch c r q z) = nonzero q
-second_source (Load k d r z) = None
 second_source (Store k r q z) = nonzero q
-second_source (Immediate o d r z) = None
-second_source (Shift o d r n) = None
 second_source (Register o d r q) = nonzero q
-second_source Fence = None
-second_source Ecall = None
-second_source Ebreak = None
+second_source _ = None
 
 unfoldable pub destination : Instruction → Option Reg
 destination (Lui d v) = nonzero d
 destination (Auipc d v) = nonzero d
 destination (Jal d z) = nonzero d
 destination (Jalr d r z) = nonzero d
-destination (Branch c r q z) = None
 destination (Load k d r z) = nonzero d
-destination (Store k r q z) = None
 destination (Immediate o d r z) = nonzero d
 destination (Shift o d r n) = nonzero d
 destination (Register o d r q) = nonzero d
-destination Fence = None
-destination Ecall = None
-destination Ebreak = None
+destination _ = None
 
 -- ---- execution
 
@@ -141,7 +123,8 @@ goes_on p v = record { result = v; next = following p; outcome = None }
 
 -- to a target, unless that is no multiple of 4
 abbrev pub jumps : ℕ → ℕ → Option Outcome → Result Effect Cause
-jumps v target o = cond (target % 4 == 0) (Ok (record { result = v; next = target; outcome = o })) (Err JumpMisaligned)
+jumps v target o =
+    if target % 4 == 0 then Ok (record { result = v; next = target; outcome = o }) else Err InstructionMisaligned
 
 abbrev pub branch_outcome : ℕ → ℕ → Bool → Outcome
 branch_outcome p target b = record { address = p; target = target; taken = b }
@@ -162,16 +145,14 @@ executed (Store k r q z) p a b = Ok (goes_on p (offset_from a z))
 executed (Immediate o d r z) p a b = Ok (goes_on p (arithmetic (immediate_op o) a (bits_of z)))
 executed (Shift o d r n) p a b = Ok (goes_on p (arithmetic (shift_op o) a n))
 executed (Register o d r q) p a b = Ok (goes_on p (arithmetic o a b))
-executed Fence p a b = Ok (goes_on p 0)
-executed Ecall p a b = Ok (goes_on p 0)
-executed Ebreak p a b = Ok (goes_on p 0)
+executed _ p a b = Ok (goes_on p 0)
 
 -- ---- the data memory
 
 unfoldable pub access : Instruction → Option Access
 access (Load k d r z) = Some (Loads k)
 access (Store k r q z) = Some (Stores k)
-access i = None
+access _ = None
 
 -- in bytes
 abbrev pub load_width : LoadKind → ℕ
@@ -191,13 +172,13 @@ width (Loads k) = load_width k
 width (Stores k) = store_width k
 
 -- why an access may not be
-abbrev pub misaligned : Access → Cause
-misaligned (Loads k) = LoadMisaligned
-misaligned (Stores k) = StoreMisaligned
+abbrev pub address_misaligned : Access → Cause
+address_misaligned (Loads k) = LoadMisaligned
+address_misaligned (Stores k) = StoreMisaligned
 
-abbrev pub outside : Access → Cause
-outside (Loads k) = LoadOutside
-outside (Stores k) = StoreOutside
+abbrev pub access_fault : Access → Cause
+access_fault (Loads k) = LoadAccessFault
+access_fault (Stores k) = StoreAccessFault
 
 -- the address of the word that holds the byte at x
 abbrev pub word_address : ℕ → ℕ
@@ -210,26 +191,27 @@ lanes_of HalfStored x = record { b0 = (x % 4 == 0); b1 = (x % 4 == 0); b2 = (x %
 lanes_of WordStored x = record { b0 = true; b1 = true; b2 = true; b3 = true }
 
 -- aligned to its width, and below the size of the data memory
-abbrev pub accepted : ℕ → ℕ → ℕ → Cause → Cause → Request → Result (Option Request) Cause
-accepted size width x misaligned outside q = cond (x % width == 0) (cond (nat_lt x size) (Ok (Some q)) (Err outside)) (Err misaligned)
+abbrev pub checked_request : ℕ → ℕ → ℕ → Cause → Cause → Request → Result (Option Request) Cause
+checked_request size width x misaligned fault q =
+    if x % width == 0 then (if nat_lt x size then Ok (Some q) else Err fault) else Err misaligned
 
 -- what an instruction asks of a data memory of that size, with the result x of execution and the operand b
 unfoldable pub request : ℕ → Option Access → ℕ → ℕ → Result (Option Request) Cause
 request size None x b = Ok None
-request size (Some (Loads k)) x b = accepted size (load_width k) x LoadMisaligned LoadOutside (Read (word_address x))
+request size (Some (Loads k)) x b = checked_request size (load_width k) x LoadMisaligned LoadAccessFault (Read (word_address x))
 request size (Some (Stores k)) x b =
-    accepted size (store_width k) x StoreMisaligned StoreOutside (Write (word_address x) (b * 2 ^ (8 * (x % 4)) % 2 ^ 32) (lanes_of k x))
+    checked_request size (store_width k) x StoreMisaligned StoreAccessFault (Write (word_address x) (b * 2 ^ (8 * (x % 4)) % 2 ^ 32) (lanes_of k x))
 
 -- what a load makes of a word whose lowest byte is the first that it reads
-abbrev pub extracted : LoadKind → ℕ → ℕ
-extracted Byte w = bits_of (signed (2 ^ 7) (w % 2 ^ 8))
-extracted Half w = bits_of (signed (2 ^ 15) (w % 2 ^ 16))
-extracted Word w = w
-extracted ByteUnsigned w = w % 2 ^ 8
-extracted HalfUnsigned w = w % 2 ^ 16
+abbrev pub extract : LoadKind → ℕ → ℕ
+extract Byte w = bits_of (signed (2 ^ 7) (w % 2 ^ 8))
+extract Half w = bits_of (signed (2 ^ 15) (w % 2 ^ 16))
+extract Word w = w
+extract ByteUnsigned w = w % 2 ^ 8
+extract HalfUnsigned w = w % 2 ^ 16
 
 -- what an instruction with the result x makes of the word that holds the byte at x; all but loads keep the result
 unfoldable pub loaded : Option Access → ℕ → ℕ → ℕ
 loaded None x w = x
-loaded (Some (Loads k)) x w = extracted k (w / 2 ^ (8 * (x % 4)))
+loaded (Some (Loads k)) x w = extract k (w / 2 ^ (8 * (x % 4)))
 loaded (Some (Stores k)) x w = x

@@ -6,21 +6,21 @@ ghost use Rattle.rv32i.specs.Causes.{cause_number};
 #[derive(Clone, Copy, PartialEq, Eq, Debug)]
 pub enum Cause {
     /// A jump or a taken branch to no multiple of 4.
-    JumpMisaligned = 0,
+    InstructionMisaligned = 0,
     /// An instruction address outside the instruction memory.
-    FetchOutside = 1,
+    InstructionAccessFault = 1,
     /// A word that is no instruction.
-    Illegal = 2,
+    IllegalInstruction = 2,
     /// `ebreak`.
     Breakpoint = 3,
     /// A load that is not aligned to its width.
     LoadMisaligned = 4,
     /// A load outside the data memory.
-    LoadOutside = 5,
+    LoadAccessFault = 5,
     /// A store that is not aligned to its width.
     StoreMisaligned = 6,
     /// A store outside the data memory.
-    StoreOutside = 7,
+    StoreAccessFault = 7,
     /// `ecall`.
     EnvironmentCall = 11,
 }

@@ -2,7 +2,7 @@
 //! what it makes of the answer.
 ghost use Rattle.std.specs.Prelude.{◌≡◌, ◌<◌};
 ghost use Rattle.rv32i.specs.Causes.{Gives};
-ghost use Rattle.rv32i.specs.Effects.{first_source, second_source, destination, arithmetic, immediate_op, shift_op, holds, goes_on, jumps, branches, access, lanes_of, width, misaligned, outside, request, extracted, loaded};
+ghost use Rattle.rv32i.specs.Effects.{first_source, second_source, destination, arithmetic, immediate_op, shift_op, holds, goes_on, jumps, branches, access, lanes_of, width, address_misaligned, access_fault, request, extract, loaded};
 
 use crate::cause::Cause;
 use crate::instruction::{
@@ -199,7 +199,7 @@ pub(crate) fn jumps(res: u32, target: u32, outcome: Option<Outcome>) -> Result<E
             outcome,
         })
     } else {
-        Err(Cause::JumpMisaligned)
+        Err(Cause::InstructionMisaligned)
     }
 }
 
@@ -270,8 +270,8 @@ impl Access {
 
     /// The cause where its address is not aligned to its width.
     #[inline(always)]
-    fn misaligned(self) -> Cause
-        ensures { result ≡ misaligned self }
+    fn address_misaligned(self) -> Cause
+        ensures { result ≡ address_misaligned self }
     {
         match self {
             Access::Load(_) => Cause::LoadMisaligned,
@@ -281,12 +281,12 @@ impl Access {
 
     /// The cause where its address is outside the data memory.
     #[inline(always)]
-    fn outside(self) -> Cause
-        ensures { result ≡ outside self }
+    fn access_fault(self) -> Cause
+        ensures { result ≡ access_fault self }
     {
         match self {
-            Access::Load(_) => Cause::LoadOutside,
-            Access::Store(_) => Cause::StoreOutside,
+            Access::Load(_) => Cause::LoadAccessFault,
+            Access::Store(_) => Cause::StoreAccessFault,
         }
     }
 }
@@ -307,10 +307,10 @@ pub fn request(
         return Ok(None);
     };
     if address % access.width() != 0 {
-        return Err(access.misaligned());
+        return Err(access.address_misaligned());
     }
     if address >= size {
-        return Err(access.outside());
+        return Err(access.access_fault());
     }
     Ok(Some(match access {
         Access::Load(_) => Request::Read {
@@ -327,7 +327,7 @@ pub fn request(
 /// What a load makes of a word whose lowest byte is the first that it reads.
 #[inline(always)]
 fn extract(kind: LoadKind, bytes: u32) -> u32
-    ensures { result ≡ extracted kind bytes }
+    ensures { result ≡ extract kind bytes }
 {
     match kind {
         LoadKind::Byte => (((bytes % 0x100) as u8).cast_signed() as i32).cast_unsigned(),

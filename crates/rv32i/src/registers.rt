@@ -1,7 +1,6 @@
 //! The register file.
-ghost use Rattle.std.specs.Prelude.{◌≡◌, ◌<◌, ◌≤◌, replicate};
-ghost use Rattle.base.specs.Refusals.{Says};
-ghost use Rattle.rv32i.specs.Registers.{register, nonzero, operand, written, RegisterRead};
+ghost use Rattle.std.specs.Prelude.{◌≡◌, ◌<◌, replicate};
+ghost use Rattle.rv32i.specs.Registers.{register, nonzero, operand, written, RegisterRead, RegisterMade};
 
 use crate::register::Register;
 use base::refusal::Refusal;
@@ -10,7 +9,7 @@ use std::marker::Model;
 impl Register {
     /// The register of that number; refused above 31.
     pub fn new(number: u32) -> Result<Register, Refusal>
-        ensures { Says (λ x. (number < 32) × (x.number ≡ number)) (λ why. (why ≡ 9) × (32 ≤ number)) result }
+        ensures { RegisterMade number result }
     {
         if number < 32 {
             Ok(Register {

@@ -2,14 +2,15 @@
 #![tactic(auto)]
 
 ghost use Rattle.std.specs.Prelude.{◌≡◌, IfOk, string_bytes};
-ghost use Rattle.rv32i_text.specs.Texts.{assembly_text};
+ghost use Rattle.rv32i_text.specs.Assembly.{assembly_text};
 
 use rv32i::instruction::Instruction;
 use std::alloc::{AllocError, Global};
-use text::AssemblyText;
 
+mod display;
 mod mnemonic;
-pub mod text;
+
+pub use display::AssemblyText;
 
 /// The line of assembly.
 // What `AssemblyText` shows, as a text of its own.

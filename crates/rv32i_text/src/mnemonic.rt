@@ -1,6 +1,6 @@
 //! The names of operations in assembly.
 ghost use Rattle.std.specs.Prelude.{◌≡◌, ℕ, List};
-ghost use Rattle.rv32i_text.specs.Texts.{condition_name, load_name, store_name, immediate_name, shift_name, register_name};
+ghost use Rattle.rv32i_text.specs.Assembly.{condition_name, load_name, store_name, immediate_name, shift_name, register_name};
 
 use rv32i::instruction::{Condition, ImmediateOp, LoadKind, RegisterOp, ShiftOp, StoreKind};
 

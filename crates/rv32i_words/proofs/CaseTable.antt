@@ -1,5 +1,6 @@
 -- The table is the manual's. Assumes nothing.
-use Rattle.std.proofs.Common.{◌≡◌, ℕ, ◌/◌, ◌%◌, ◌^◌, ◌<◌, Bool, true, false, cond, ◌&&◌, eqb, List, [], ◌∷◌, Some, None, Option, sym, refl, ap, ◌∙◌, subst}
+use Rattle.std.proofs.Common.{◌≡◌, ℕ, ◌/◌, ◌%◌, ◌^◌, ◌<◌, Bool, true, false, ◌&&◌, eqb, List, [], ◌∷◌, Some, None, Option, sym, refl, ap, ◌∙◌, subst}
+use Rattle.std.specs.Prelude.{if◌then◌else◌, ◌==◌}
 use Rattle.std.proofs.lemmas.Bool.{eqb-true}
 use Rattle.rv32i_words.specs.declared.decoding.Row.{Row}
 use Rattle.rv32i.specs.declared.instruction.Condition.TheVariants.{Eq, Ne, Lt, Ge, Ltu, Geu}
@@ -14,7 +15,7 @@ use Rattle.rv32i_words.specs.Fields.{opcode_of, funct3_of, funct7_of}
 use Rattle.rv32i_words.specs.Operations.{operation_by, operation_of}
 use Rattle.std.specs.List.{find}
 use Rattle.std.specs.Option.{option_map}
-use Rattle.rv32i_words.specs.Search.{fits, first_in}
+use Rattle.rv32i_words.specs.Search.{matches, first_in}
 use Rattle.rv32i_words.proofs.Masks.{test_op, test_f3, test_f7, test_all}
 
 -- the constant of the code
@@ -70,14 +71,14 @@ at_number P n c here elsewhere =
 -- a row's test, by the fields that its mask keeps
 abbrev fits_by : Row → ℕ → ℕ → ℕ → ℕ → Bool
 fits_by r op f3 f7 rest =
-    cond (eqb r.mask 0x7f) (eqb op r.value)
-    (cond (eqb r.mask 0x707f) (eqb op (r.value % 2 ^ 12) && eqb f3 (r.value / 2 ^ 12))
-    (cond (eqb r.mask 0xfe00707f) ((eqb op (r.value % 2 ^ 25 % 2 ^ 12) && eqb f3 (r.value % 2 ^ 25 / 2 ^ 12)) && eqb f7 (r.value / 2 ^ 25))
-    (eqb op (r.value % 2 ^ 7) && eqb rest (r.value / 2 ^ 7))))
+    if r.mask == 0x7f then op == r.value
+    else if r.mask == 0x707f then op == r.value % 2 ^ 12 && f3 == r.value / 2 ^ 12
+    else if r.mask == 0xfe00707f then (op == r.value % 2 ^ 25 % 2 ^ 12 && f3 == r.value % 2 ^ 25 / 2 ^ 12) && f7 == r.value / 2 ^ 25
+    else op == r.value % 2 ^ 7 && rest == r.value / 2 ^ 7
 
 abbrev first_by : List Row → ℕ → ℕ → ℕ → ℕ → Option Operation
 first_by [] op f3 f7 rest = None
-first_by (r ∷ rs) op f3 f7 rest = cond (fits_by r op f3 f7 rest) (Some r.operation) (first_by rs op f3 f7 rest)
+first_by (r ∷ rs) op f3 f7 rest = if fits_by r op f3 f7 rest then Some r.operation else first_by rs op f3 f7 rest
 
 Same : ℕ → ℕ → ℕ → ℕ → Type 0
 Same op f3 f7 rest = first_by rows op f3 f7 rest ≡ operation_by op f3 f7 rest
@@ -111,15 +112,15 @@ same op f3 f7 rest =
 -- the search, row by row
 abbrev in_turn : List Row → ℕ → Option Operation
 in_turn [] w = None
-in_turn (r ∷ rs) w = cond (fits w r) (Some r.operation) (in_turn rs w)
+in_turn (r ∷ rs) w = if matches w r then Some r.operation else in_turn rs w
 
-mapped : (b : Bool) (r : Row) (o : Option Row) → option_map (λ (x : Row). x.operation) (cond b (Some r) o) ≡ cond b (Some r.operation) (option_map (λ (x : Row). x.operation) o)
+mapped : (b : Bool) (r : Row) (o : Option Row) → option_map (λ (x : Row). x.operation) (if b then Some r else o) ≡ (if b then Some r.operation else option_map (λ (x : Row). x.operation) o)
 mapped true r o = refl
 mapped false r o = refl
 
 turn_by_turn : (rs : List Row) (w : ℕ) → first_in rs w ≡ in_turn rs w
 turn_by_turn [] w = refl
-turn_by_turn (r ∷ rs) w = mapped (fits w r) r (find (fits w) rs) ∙ ap (λ (o : Option Operation). cond (fits w r) (Some r.operation) o) (turn_by_turn rs w)
+turn_by_turn (r ∷ rs) w = mapped (matches w r) r (find (matches w) rs) ∙ ap (λ (o : Option Operation). if matches w r then Some r.operation else o) (turn_by_turn rs w)
 
 pub table_is : (w : ℕ) → w < 2 ^ 32 → first_in rows w ≡ operation_of w
 unfolding Same

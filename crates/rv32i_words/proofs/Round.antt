@@ -1,5 +1,6 @@
 -- Decoding undoes encoding, and encoding undoes decoding. Assumes nothing.
-use Rattle.std.proofs.Common.{◌≡◌, ℕ, ◌+◌, ◌*◌, ◌/◌, ◌%◌, ◌^◌, ◌<◌, Bool, true, false, cond, eqb, ltb, [], ◌∷◌, ℤ, pos, neg_ℤ, Some, None, Ok, Err, IfOk, Option, Result, sym, refl, ap, ◌∙◌, subst, arith}
+use Rattle.std.proofs.Common.{◌≡◌, ℕ, ◌+◌, ◌*◌, ◌/◌, ◌%◌, ◌^◌, ◌<◌, Bool, true, false, eqb, ltb, [], ◌∷◌, ℤ, pos, neg_ℤ, Some, None, Ok, Err, IfOk, Option, Result, sym, refl, ap, ◌∙◌, subst, arith}
+use Rattle.std.specs.Prelude.{if◌then◌else◌}
 use lib.Pow.{split}
 use lib.Signed.{le_z, lt_z}
 use Rattle.std.proofs.lemmas.Int.{ints}
@@ -24,10 +25,10 @@ use Rattle.rv32i.specs.declared.instruction.Operation.TheVariants.{Lui as ALui, 
 use Rattle.rv32i.specs.declared.instruction.Instruction.{Instruction}
 use Rattle.rv32i.specs.declared.instruction.Instruction.TheVariants.{Lui, Auipc, Jal, Jalr, Branch, Load, Store, Immediate, Shift, Register, Fence, Ecall, Ebreak}
 use Rattle.rv32i_words.specs.Fields.{opcode_of, rd_of, funct3_of, rs1_of, rs2_of, funct7_of, word_of}
-use Rattle.rv32i_words.specs.Immediates.{low_bits, twelve, branch_bits, branch_low, branch_high, jump_bits, jump_high, upper}
-use Rattle.rv32i_words.specs.Operations.{Column, pick, plain, plain_or_20, branches, loads, stores, immediates, registers, jumps_by_register, fences, calls, opcodes, operation_by, operation_of}
+use Rattle.rv32i_words.specs.Immediates.{low_bits, imm_11_0, b_immediate, branch_low, branch_high, j_immediate, jump_high, u_immediate}
+use Rattle.rv32i_words.specs.Operations.{Column, pick, at_00_only, at_00_or_20, branch_column, load_column, store_column, op_imm_column, op_column, jalr_column, misc_mem_column, system_column, opcode_column, operation_by, operation_of}
 use Rattle.rv32i.specs.Signs.{signed}
-use Rattle.rv32i_words.specs.Words.{taken_apart, if_any, decoded_by, decoded, condition_code, load_code, store_code, immediate_code, shift_codes, register_codes, held_if, word_u, word_j, word_i, word_s, word_b, encoded, Encodes, Undone, Restored}
+use Rattle.rv32i_words.specs.Words.{instruction_by_fields, if_any, decoded_by, decoded, condition_code, load_code, store_code, immediate_code, shift_codes, register_codes, word_if, word_u, word_j, word_i, word_s, word_b, encoded, Encodes, Undone, Restored}
 use Rattle.rv32i.proofs.Numbered.{register_of}
 use Rattle.rv32i_words.proofs.SixFields.{opcode_word, rd_word, funct3_word, rs1_word, rs2_word, funct7_word, word_fields, rest_is}
 
@@ -44,13 +45,13 @@ low_21 : (z : ℤ) → le_z (neg_ℤ (pos (2 ^ 20))) z ≡ true → lt_z z (pos 
 low_21 z lo hi = grind (arith, ints, nat_tests)
 
 -- the pieces of an even number, put into fields and taken out again
-branch_joined : (n : ℕ) → n < 2 ^ 13 → n % 2 ≡ 0 → branch_bits (branch_low n) (branch_high n) ≡ n
+branch_joined : (n : ℕ) → n < 2 ^ 13 → n % 2 ≡ 0 → b_immediate (branch_low n) (branch_high n) ≡ n
 branch_joined n h e = grind arith
 
-jump_joined : (n : ℕ) → n < 2 ^ 21 → n % 2 ≡ 0 → jump_bits (n / 2 ^ 12 % 2 ^ 3) (n / 2 ^ 15 % 2 ^ 5) (branch_low n) (jump_high n) ≡ n
+jump_joined : (n : ℕ) → n < 2 ^ 21 → n % 2 ≡ 0 → j_immediate (n / 2 ^ 12 % 2 ^ 3) (n / 2 ^ 15 % 2 ^ 5) (branch_low n) (jump_high n) ≡ n
 jump_joined n h e = grind arith
 
-upper_joined : (v : ℕ) → v < 2 ^ 32 → v % 2 ^ 12 ≡ 0 → upper (funct3_of v) (rs1_of v) (rs2_of v) (funct7_of v) ≡ v
+upper_joined : (v : ℕ) → v < 2 ^ 32 → v % 2 ^ 12 ≡ 0 → u_immediate (funct3_of v) (rs1_of v) (rs2_of v) (funct7_of v) ≡ v
 upper_joined v h e = grind arith
 
 -- ---- decoding undoes encoding
@@ -58,7 +59,7 @@ upper_joined v h e = grind arith
 -- a word made of six fields is decoded by them
 decoded_word : (op d f3 r1 r2 f7 : ℕ) (o : Operation) (i : Instruction) → op < 2 ^ 7 → d < 2 ^ 5 → f3 < 2 ^ 3 → r1 < 2 ^ 5 → r2 < 2 ^ 5 → f7 < 2 ^ 7
     → ((rest : ℕ) → operation_by op f3 f7 rest ≡ Some o)
-    → taken_apart o d f3 r1 r2 f7 ≡ i
+    → instruction_by_fields o d f3 r1 r2 f7 ≡ i
     → decoded (word_of op d f3 r1 r2 f7) ≡ Some i
 unfolding decoded
 decoded_word op d f3 r1 r2 f7 o i h0 h1 h2 h3 h4 h5 e t =
@@ -75,7 +76,7 @@ decoded_word op d f3 r1 r2 f7 o i h0 h1 h2 h3 h4 h5 e t =
 
 module _ (op : ℕ) (o : Operation) (i : Instruction) (h0 : op < 2 ^ 7) where
   restored_u : (d : Reg) (v : ℕ) → ((f3 f7 rest : ℕ) → operation_by op f3 f7 rest ≡ Some o)
-      → ((f3 r1 r2 f7 : ℕ) → upper f3 r1 r2 f7 ≡ v → taken_apart o d.number f3 r1 r2 f7 ≡ i) → Restored (word_u op d.number v) i
+      → ((f3 r1 r2 f7 : ℕ) → u_immediate f3 r1 r2 f7 ≡ v → instruction_by_fields o d.number f3 r1 r2 f7 ≡ i) → Restored (word_u op d.number v) i
   restored_u d v e t =
       let w = decoded_word op d.number (funct3_of v) (rs1_of v) (rs2_of v) (funct7_of v) o i h0 d.ok (omega arith) (omega arith) (omega arith) (omega arith) (e (funct3_of v) (funct7_of v)) in
       let j = upper_joined v in
@@ -83,7 +84,7 @@ module _ (op : ℕ) (o : Operation) (i : Instruction) (h0 : op < 2 ^ 7) where
       grind (arith, nat_tests)
 
   restored_j : (d : Reg) (z : ℤ) → ((f3 f7 rest : ℕ) → operation_by op f3 f7 rest ≡ Some o)
-      → ((f3 r1 r2 f7 : ℕ) → signed (2 ^ 20) (jump_bits f3 r1 r2 f7) ≡ z → taken_apart o d.number f3 r1 r2 f7 ≡ i) → Restored (word_j op d.number z) i
+      → ((f3 r1 r2 f7 : ℕ) → signed (2 ^ 20) (j_immediate f3 r1 r2 f7) ≡ z → instruction_by_fields o d.number f3 r1 r2 f7 ≡ i) → Restored (word_j op d.number z) i
   restored_j d z e t =
       let n : ℕ = low_bits (2 ^ 20) z in
       let f3 : ℕ = n / 2 ^ 12 % 2 ^ 3 in
@@ -95,27 +96,27 @@ module _ (op : ℕ) (o : Operation) (i : Instruction) (h0 : op < 2 ^ 7) where
       grind (arith, nat_tests)
 
   module _ (f3 : ℕ) (h2 : f3 < 2 ^ 3) (e : (f7 rest : ℕ) → operation_by op f3 f7 rest ≡ Some o) where
-    restored_i : (d r1 : Reg) (z : ℤ) → ((r2 f7 : ℕ) → signed 2048 (twelve r2 f7) ≡ z → taken_apart o d.number f3 r1.number r2 f7 ≡ i)
+    restored_i : (d r1 : Reg) (z : ℤ) → ((r2 f7 : ℕ) → signed 2048 (imm_11_0 r2 f7) ≡ z → instruction_by_fields o d.number f3 r1.number r2 f7 ≡ i)
         → Restored (word_i op f3 d.number r1.number z) i
     restored_i d r1 z t =
         let n : ℕ = low_bits 2048 z in
         let w = decoded_word op d.number f3 r1.number (n % 2 ^ 5) (n / 2 ^ 5) o i h0 d.ok h2 r1.ok (omega arith) (omega arith) (e (n / 2 ^ 5)) in
         let low = low_12 z in
-        let joined : twelve (n % 2 ^ 5) (n / 2 ^ 5) ≡ n = split n 5 in
+        let joined : imm_11_0 (n % 2 ^ 5) (n / 2 ^ 5) ≡ n = split n 5 in
         let k = t (n % 2 ^ 5) (n / 2 ^ 5) in
         grind (arith, nat_tests)
 
-    restored_s : (r1 r2 : Reg) (z : ℤ) → ((d f7 : ℕ) → signed 2048 (twelve d f7) ≡ z → taken_apart o d f3 r1.number r2.number f7 ≡ i)
+    restored_s : (r1 r2 : Reg) (z : ℤ) → ((d f7 : ℕ) → signed 2048 (imm_11_0 d f7) ≡ z → instruction_by_fields o d f3 r1.number r2.number f7 ≡ i)
         → Restored (word_s op f3 r1.number r2.number z) i
     restored_s r1 r2 z t =
         let n : ℕ = low_bits 2048 z in
         let w = decoded_word op (n % 2 ^ 5) f3 r1.number r2.number (n / 2 ^ 5) o i h0 (omega arith) h2 r1.ok r2.ok (omega arith) (e (n / 2 ^ 5)) in
         let low = low_12 z in
-        let joined : twelve (n % 2 ^ 5) (n / 2 ^ 5) ≡ n = split n 5 in
+        let joined : imm_11_0 (n % 2 ^ 5) (n / 2 ^ 5) ≡ n = split n 5 in
         let k = t (n % 2 ^ 5) (n / 2 ^ 5) in
         grind (arith, nat_tests)
 
-    restored_b : (r1 r2 : Reg) (z : ℤ) → ((d f7 : ℕ) → signed 4096 (branch_bits d f7) ≡ z → taken_apart o d f3 r1.number r2.number f7 ≡ i)
+    restored_b : (r1 r2 : Reg) (z : ℤ) → ((d f7 : ℕ) → signed 4096 (b_immediate d f7) ≡ z → instruction_by_fields o d f3 r1.number r2.number f7 ≡ i)
         → Restored (word_b op f3 r1.number r2.number z) i
     restored_b r1 r2 z t =
         let n : ℕ = low_bits 4096 z in
@@ -169,7 +170,7 @@ data Each (P : Option Operation → Type 0) (n : ℕ) : Column → Type 0 where
   ◌at_or◌ : {c : ℕ} {x : Option Operation} {es : Column} → (n ≡ c → P x) → Each P n es → Each P n ((c, x) ∷ es)
 
 infixr 20 ◌at_or◌
-picked_by : (P : Option Operation → Type 0) (b : Bool) (n c : ℕ) (x y : Option Operation) → eqb n c ≡ b → (n ≡ c → P x) → P y → P (cond b x y)
+picked_by : (P : Option Operation → Type 0) (b : Bool) (n c : ℕ) (x y : Option Operation) → eqb n c ≡ b → (n ≡ c → P x) → P y → P (if b then x else y)
 picked_by P true n c x y e f k = f (eqb-true n c e)
 picked_by P false n c x y e f k = k
 
@@ -179,22 +180,22 @@ picked (nowhere k) = k
 picked {P} {n} (◌at_or◌ {c} {x} {es} k ks) = picked_by P (eqb n c) n c x (pick n es) refl k (picked ks)
 
 module _ (d f3 r1 r2 f7 : ℕ) (h1 : d < 2 ^ 5) (h2 : f3 < 2 ^ 3) (h3 : r1 < 2 ^ 5) (h4 : r2 < 2 ^ 5) (h5 : f7 < 2 ^ 7) where
-  undone_u : (op : ℕ) → word_u op (d % 32) (upper f3 r1 r2 f7) ≡ Some (word_of op d f3 r1 r2 f7)
+  undone_u : (op : ℕ) → word_u op (d % 32) (u_immediate f3 r1 r2 f7) ≡ Some (word_of op d f3 r1 r2 f7)
   undone_u op = grind (arith, ints, nat_tests)
 
-  undone_j : (op : ℕ) → word_j op (d % 32) (signed (2 ^ 20) (jump_bits f3 r1 r2 f7)) ≡ Some (word_of op d f3 r1 r2 f7)
+  undone_j : (op : ℕ) → word_j op (d % 32) (signed (2 ^ 20) (j_immediate f3 r1 r2 f7)) ≡ Some (word_of op d f3 r1 r2 f7)
   undone_j op = grind (arith, ints, nat_tests)
 
-  undone_i : (op : ℕ) → word_i op f3 (d % 32) (r1 % 32) (signed 2048 (twelve r2 f7)) ≡ Some (word_of op d f3 r1 r2 f7)
+  undone_i : (op : ℕ) → word_i op f3 (d % 32) (r1 % 32) (signed 2048 (imm_11_0 r2 f7)) ≡ Some (word_of op d f3 r1 r2 f7)
   undone_i op = grind (arith, ints, nat_tests)
 
-  undone_s : (op : ℕ) → word_s op f3 (r1 % 32) (r2 % 32) (signed 2048 (twelve d f7)) ≡ Some (word_of op d f3 r1 r2 f7)
+  undone_s : (op : ℕ) → word_s op f3 (r1 % 32) (r2 % 32) (signed 2048 (imm_11_0 d f7)) ≡ Some (word_of op d f3 r1 r2 f7)
   undone_s op = grind (arith, ints, nat_tests)
 
-  undone_b : (op : ℕ) → word_b op f3 (r1 % 32) (r2 % 32) (signed 4096 (branch_bits d f7)) ≡ Some (word_of op d f3 r1 r2 f7)
+  undone_b : (op : ℕ) → word_b op f3 (r1 % 32) (r2 % 32) (signed 4096 (b_immediate d f7)) ≡ Some (word_of op d f3 r1 r2 f7)
   undone_b op = grind (arith, ints, nat_tests)
 
-  undone_shift : held_if (ltb r2 32) (Some (word_of 0x13 (d % 32) f3 (r1 % 32) r2 f7)) ≡ Some (word_of 0x13 d f3 r1 r2 f7)
+  undone_shift : word_if (ltb r2 32) (Some (word_of 0x13 (d % 32) f3 (r1 % 32) r2 f7)) ≡ Some (word_of 0x13 d f3 r1 r2 f7)
   undone_shift = grind (arith, nat_tests)
 
   undone_register : word_of 0x33 (d % 32) f3 (r1 % 32) (r2 % 32) f7 ≡ word_of 0x33 d f3 r1 r2 f7
@@ -225,22 +226,22 @@ module _ (d f3 r1 r2 f7 : ℕ) (h1 : d < 2 ^ 5) (h2 : f3 < 2 ^ 3) (h3 : r1 < 2 ^
     abbrev EachKept : ℕ → Column → Type 0
     EachKept = Each (Kept op)
 
-    at_plain : (o : Operation) → (f7 ≡ 0x00 → Kept op (Some o)) → Kept op (pick f7 (plain o))
-    at_plain o k = let all : EachKept f7 (plain o) = k at_or nowhere tt in picked all
+    at_plain : (o : Operation) → (f7 ≡ 0x00 → Kept op (Some o)) → Kept op (pick f7 (at_00_only o))
+    at_plain o k = let all : EachKept f7 (at_00_only o) = k at_or nowhere tt in picked all
 
-    at_two : (o p : Operation) → (f7 ≡ 0x00 → Kept op (Some o)) → (f7 ≡ 0x20 → Kept op (Some p)) → Kept op (pick f7 (plain_or_20 o p))
-    at_two o p k l = let all : EachKept f7 (plain_or_20 o p) = k at_or l at_or nowhere tt in picked all
+    at_two : (o p : Operation) → (f7 ≡ 0x00 → Kept op (Some o)) → (f7 ≡ 0x20 → Kept op (Some p)) → Kept op (pick f7 (at_00_or_20 o p))
+    at_two o p k l = let all : EachKept f7 (at_00_or_20 o p) = k at_or l at_or nowhere tt in picked all
 
-    at_branches : op ≡ 0x63 → EachKept f3 branches
+    at_branches : op ≡ 0x63 → EachKept f3 branch_column
     at_branches e = at_branch Eq op e at_or at_branch Ne op e at_or at_branch Lt op e at_or at_branch Ge op e at_or at_branch Ltu op e at_or at_branch Geu op e at_or nowhere tt
 
-    at_loads : op ≡ 0x03 → EachKept f3 loads
+    at_loads : op ≡ 0x03 → EachKept f3 load_column
     at_loads e = at_load Byte op e at_or at_load Half op e at_or at_load Word op e at_or at_load ByteUnsigned op e at_or at_load HalfUnsigned op e at_or nowhere tt
 
-    at_stores : op ≡ 0x23 → EachKept f3 stores
+    at_stores : op ≡ 0x23 → EachKept f3 store_column
     at_stores e = at_store ByteStored op e at_or at_store HalfStored op e at_or at_store WordStored op e at_or nowhere tt
 
-    at_immediates : op ≡ 0x13 → EachKept f3 (immediates f7)
+    at_immediates : op ≡ 0x13 → EachKept f3 (op_imm_column f7)
     at_immediates e =
         at_immediate AddImm op e
         at_or at_immediate SltImm op e
@@ -252,7 +253,7 @@ module _ (d f3 r1 r2 f7 : ℕ) (h1 : d < 2 ^ 5) (h2 : f3 < 2 ^ 3) (h3 : r1 < 2 ^
         at_or (λ g. at_two (AShift SrlImm) (AShift SraImm) (at_shift SrlImm op e g) (at_shift SraImm op e g))
         at_or nowhere tt
 
-    at_registers : op ≡ 0x33 → EachKept f3 (registers f7)
+    at_registers : op ≡ 0x33 → EachKept f3 (op_column f7)
     at_registers e =
         (λ g. at_two (ARegister Add) (ARegister Sub) (at_register Add op e g) (at_register Sub op e g))
         at_or (λ g. at_plain (ARegister Sll) (at_register Sll op e g))
@@ -264,19 +265,19 @@ module _ (d f3 r1 r2 f7 : ℕ) (h1 : d < 2 ^ 5) (h2 : f3 < 2 ^ 3) (h3 : r1 < 2 ^
         at_or (λ g. at_plain (ARegister And) (at_register And op e g))
         at_or nowhere tt
 
-    at_jalr : op ≡ 0x67 → EachKept f3 jumps_by_register
+    at_jalr : op ≡ 0x67 → EachKept f3 jalr_column
     at_jalr e = (λ g _. rw (e, g) (rw g at (undone_i 0x67))) at_or nowhere tt
 
-    at_fence : op ≡ 0x0f → EachKept f3 fences
+    at_fence : op ≡ 0x0f → EachKept f3 misc_mem_column
     at_fence e = (λ g h. ap (λ (x : ℕ). Some x) (sym (h refl))) at_or nowhere tt
 
     abbrev rest : ℕ
     rest = f7 * 2 ^ 18 + r2 * 2 ^ 13 + r1 * 2 ^ 8 + f3 * 2 ^ 5 + d
 
-    at_calls : op ≡ 0x73 → EachKept rest calls
+    at_calls : op ≡ 0x73 → EachKept rest system_column
     at_calls e = (λ g _. ap (λ (x : ℕ). Some x) (omega arith)) at_or (λ g _. ap (λ (x : ℕ). Some x) (omega arith)) at_or nowhere tt
 
-    at_opcodes : EachKept op (opcodes f3 f7 rest)
+    at_opcodes : EachKept op (opcode_column f3 f7 rest)
     at_opcodes =
         (λ e _. rw e (undone_u 0x37))
         at_or (λ e _. rw e (undone_u 0x17))

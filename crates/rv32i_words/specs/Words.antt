@@ -1,7 +1,8 @@
 -- What a word means, the word of an instruction, and that each undoes the other. Assumes nothing.
 use Rattle.std.specs.Prelude.{◌≡◌, ℕ, ◌+◌, ◌*◌, ◌/◌, ◌%◌, ◌^◌, Bool, if◌then◌else◌, ℤ, pos, neg_ℤ, Some, None, Option, Result, ◌==◌, int_le, int_lt, nat_lt}
-use Rattle.base.specs.Refusals.{Says}
+use Rattle.base.specs.Refusals.{number, Says}
 use Rattle.base.specs.declared.refusal.Refusal.{Refusal}
+use Rattle.base.specs.declared.refusal.Refusal.TheVariants.{NoWord}
 use Rattle.rv32i.specs.declared.instruction.Condition.{Condition}
 use Rattle.rv32i.specs.declared.instruction.Condition.TheVariants.{Eq, Ne, Lt, Ge, Ltu, Geu}
 use Rattle.rv32i.specs.declared.instruction.LoadKind.{LoadKind}
@@ -19,32 +20,36 @@ use Rattle.rv32i.specs.declared.instruction.Operation.TheVariants.{Lui as ALui, 
 use Rattle.rv32i.specs.declared.instruction.Instruction.{Instruction}
 use Rattle.rv32i.specs.declared.instruction.Instruction.TheVariants.{Lui, Auipc, Jal, Jalr, Branch, Load, Store, Immediate, Shift, Register, Fence, Ecall, Ebreak}
 use Rattle.rv32i_words.specs.Fields.{opcode_of, rd_of, funct3_of, rs1_of, rs2_of, funct7_of, word_of}
-use Rattle.rv32i_words.specs.Immediates.{low_bits, twelve, branch_bits, branch_low, branch_high, jump_bits, jump_high, upper}
+use Rattle.rv32i_words.specs.Immediates.{low_bits, imm_11_0, b_immediate, branch_low, branch_high, j_immediate, jump_high, u_immediate}
 use Rattle.rv32i_words.specs.Operations.{operation_by}
 use Rattle.rv32i.specs.Registers.{register}
 use Rattle.rv32i.specs.Signs.{signed}
 
 -- ---- decoding
 
--- the instruction of a kind, from a word's fields
-abbrev pub taken_apart : Operation → ℕ → ℕ → ℕ → ℕ → ℕ → Instruction
-taken_apart ALui d f3 r1 r2 f7 = Lui (register d) (upper f3 r1 r2 f7)
-taken_apart AnAuipc d f3 r1 r2 f7 = Auipc (register d) (upper f3 r1 r2 f7)
-taken_apart AJal d f3 r1 r2 f7 = Jal (register d) (signed (2 ^ 20) (jump_bits f3 r1 r2 f7))
-taken_apart AJalr d f3 r1 r2 f7 = Jalr (register d) (register r1) (signed 2048 (twelve r2 f7))
-taken_apart (ABranch c) d f3 r1 r2 f7 = Branch c (register r1) (register r2) (signed 4096 (branch_bits d f7))
-taken_apart (ALoad k) d f3 r1 r2 f7 = Load k (register d) (register r1) (signed 2048 (twelve r2 f7))
-taken_apart (AStore k) d f3 r1 r2 f7 = Store k (register r1) (register r2) (signed 2048 (twelve d f7))
-taken_apart (AnImmediate o) d f3 r1 r2 f7 = Immediate o (register d) (register r1) (signed 2048 (twelve r2 f7))
-taken_apart (AShift o) d f3 r1 r2 f7 = Shift o (register d) (register r1) r2
-taken_apart (ARegister o) d f3 r1 r2 f7 = Register o (register d) (register r1) (register r2)
-taken_apart AFence d f3 r1 r2 f7 = Fence
-taken_apart AnEcall d f3 r1 r2 f7 = Ecall
-taken_apart AnEbreak d f3 r1 r2 f7 = Ebreak
+-- the instruction of an operation, from a word's fields
+abbrev pub instruction_by_fields : Operation → ℕ → ℕ → ℕ → ℕ → ℕ → Instruction
+instruction_by_fields ALui d f3 r1 r2 f7 = Lui (register d) (u_immediate f3 r1 r2 f7)
+instruction_by_fields AnAuipc d f3 r1 r2 f7 = Auipc (register d) (u_immediate f3 r1 r2 f7)
+instruction_by_fields AJal d f3 r1 r2 f7 = Jal (register d) (signed (2 ^ 20) (j_immediate f3 r1 r2 f7))
+instruction_by_fields AJalr d f3 r1 r2 f7 = Jalr (register d) (register r1) (signed 2048 (imm_11_0 r2 f7))
+instruction_by_fields (ABranch c) d f3 r1 r2 f7 = Branch c (register r1) (register r2) (signed 4096 (b_immediate d f7))
+instruction_by_fields (ALoad k) d f3 r1 r2 f7 = Load k (register d) (register r1) (signed 2048 (imm_11_0 r2 f7))
+instruction_by_fields (AStore k) d f3 r1 r2 f7 = Store k (register r1) (register r2) (signed 2048 (imm_11_0 d f7))
+instruction_by_fields (AnImmediate o) d f3 r1 r2 f7 = Immediate o (register d) (register r1) (signed 2048 (imm_11_0 r2 f7))
+instruction_by_fields (AShift o) d f3 r1 r2 f7 = Shift o (register d) (register r1) r2
+instruction_by_fields (ARegister o) d f3 r1 r2 f7 = Register o (register d) (register r1) (register r2)
+instruction_by_fields AFence d f3 r1 r2 f7 = Fence
+instruction_by_fields AnEcall d f3 r1 r2 f7 = Ecall
+instruction_by_fields AnEbreak d f3 r1 r2 f7 = Ebreak
+
+-- the same from the whole word
+abbrev pub instruction_in : Operation → ℕ → Instruction
+instruction_in o w = instruction_by_fields o (rd_of w) (funct3_of w) (rs1_of w) (rs2_of w) (funct7_of w)
 
 abbrev pub if_any : Option Operation → ℕ → ℕ → ℕ → ℕ → ℕ → Option Instruction
 if_any None d f3 r1 r2 f7 = None
-if_any (Some o) d f3 r1 r2 f7 = Some (taken_apart o d f3 r1 r2 f7)
+if_any (Some o) d f3 r1 r2 f7 = Some (instruction_by_fields o d f3 r1 r2 f7)
 
 -- by the six fields
 abbrev pub decoded_by : ℕ → ℕ → ℕ → ℕ → ℕ → ℕ → Option Instruction
@@ -103,34 +108,34 @@ register_codes Or = (6, 0x00)
 register_codes And = (7, 0x00)
 
 -- the word, where its field holds what the instruction has
-abbrev pub held_if : Bool → Option ℕ → Option ℕ
-held_if b word = if b then word else None
+abbrev pub word_if : Bool → Option ℕ → Option ℕ
+word_if b word = if b then word else None
 
 -- from -h to h - 1
-abbrev pub within_range : ℕ → ℤ → Option ℕ → Option ℕ
-within_range h z word = held_if (int_le (neg_ℤ (pos h)) z) (held_if (int_lt z (pos h)) word)
+abbrev pub word_if_in_range : ℕ → ℤ → Option ℕ → Option ℕ
+word_if_in_range h z word = word_if (int_le (neg_ℤ (pos h)) z) (word_if (int_lt z (pos h)) word)
 
-abbrev pub evenly : ℕ → Option ℕ → Option ℕ
-evenly n word = held_if (n % 2 == 0) word
+abbrev pub word_if_even : ℕ → Option ℕ → Option ℕ
+word_if_even n word = word_if (n % 2 == 0) word
 
 abbrev pub word_u : ℕ → ℕ → ℕ → Option ℕ
-word_u op d v = held_if (v % 2 ^ 12 == 0) (held_if (nat_lt v (2 ^ 32)) (Some (word_of op d (funct3_of v) (rs1_of v) (rs2_of v) (funct7_of v))))
+word_u op d v = word_if (v % 2 ^ 12 == 0) (word_if (nat_lt v (2 ^ 32)) (Some (word_of op d (funct3_of v) (rs1_of v) (rs2_of v) (funct7_of v))))
 
 abbrev pub word_j : ℕ → ℕ → ℤ → Option ℕ
 word_j op d z =
-    within_range (2 ^ 20) z (evenly (low_bits (2 ^ 20) z) (
+    word_if_in_range (2 ^ 20) z (word_if_even (low_bits (2 ^ 20) z) (
     Some (word_of op d (low_bits (2 ^ 20) z / 2 ^ 12 % 2 ^ 3) (low_bits (2 ^ 20) z / 2 ^ 15 % 2 ^ 5) (branch_low (low_bits (2 ^ 20) z)) (jump_high (low_bits (2 ^ 20) z)))
     ))
 
 abbrev pub word_i : ℕ → ℕ → ℕ → ℕ → ℤ → Option ℕ
-word_i op f3 d r1 z = within_range 2048 z (Some (word_of op d f3 r1 (low_bits 2048 z % 2 ^ 5) (low_bits 2048 z / 2 ^ 5)))
+word_i op f3 d r1 z = word_if_in_range 2048 z (Some (word_of op d f3 r1 (low_bits 2048 z % 2 ^ 5) (low_bits 2048 z / 2 ^ 5)))
 
 abbrev pub word_s : ℕ → ℕ → ℕ → ℕ → ℤ → Option ℕ
-word_s op f3 r1 r2 z = within_range 2048 z (Some (word_of op (low_bits 2048 z % 2 ^ 5) f3 r1 r2 (low_bits 2048 z / 2 ^ 5)))
+word_s op f3 r1 r2 z = word_if_in_range 2048 z (Some (word_of op (low_bits 2048 z % 2 ^ 5) f3 r1 r2 (low_bits 2048 z / 2 ^ 5)))
 
 abbrev pub word_b : ℕ → ℕ → ℕ → ℕ → ℤ → Option ℕ
 word_b op f3 r1 r2 z =
-    within_range 4096 z (evenly (low_bits 4096 z) (Some (word_of op (branch_low (low_bits 4096 z)) f3 r1 r2 (branch_high (low_bits 4096 z)))))
+    word_if_in_range 4096 z (word_if_even (low_bits 4096 z) (Some (word_of op (branch_low (low_bits 4096 z)) f3 r1 r2 (branch_high (low_bits 4096 z)))))
 
 -- the word of an instruction, or none where a field cannot hold what it has
 abbrev pub encoded : Instruction → Option ℕ
@@ -142,15 +147,15 @@ encoded (Branch c r1 r2 z) = word_b 0x63 (condition_code c) r1.number r2.number 
 encoded (Load k d r1 z) = word_i 0x03 (load_code k) d.number r1.number z
 encoded (Store k r1 r2 z) = word_s 0x23 (store_code k) r1.number r2.number z
 encoded (Immediate o d r1 z) = word_i 0x13 (immediate_code o) d.number r1.number z
-encoded (Shift o d r1 n) = held_if (nat_lt n 32) (Some (word_of 0x13 d.number (shift_codes o).0 r1.number n (shift_codes o).1))
+encoded (Shift o d r1 n) = word_if (nat_lt n 32) (Some (word_of 0x13 d.number (shift_codes o).0 r1.number n (shift_codes o).1))
 encoded (Register o d r1 r2) = Some (word_of 0x33 d.number (register_codes o).0 r1.number r2.number (register_codes o).1)
 encoded Fence = Some 0x0ff0000f
 encoded Ecall = Some 0x00000073
 encoded Ebreak = Some 0x00100073
 
--- the answer of an encoding: the word, or refusal 10 where there is none
+-- the answer of an encoding: the word, or a refusal where there is none
 abbrev pub Encodes : Option ℕ → Result ℕ Refusal → Type 0
-Encodes word = Says (λ w. word ≡ Some w) (λ why. (why ≡ 10) × (word ≡ None))
+Encodes word = Says (λ w. word ≡ Some w) (λ why. (why ≡ number NoWord) × (word ≡ None))
 
 -- ---- each undoes the other
 

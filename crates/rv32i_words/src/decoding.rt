@@ -1,11 +1,10 @@
 //! From words to instructions.
 ghost use Rattle.std.specs.Prelude.{◌≡◌};
 ghost use Rattle.rv32i.specs.Causes.{Gives};
-ghost use Rattle.rv32i_words.specs.Fields.{rd_of, funct3_of, rs1_of, rs2_of, funct7_of};
 ghost use Rattle.rv32i_words.specs.Issues.{issued};
 ghost use Rattle.rv32i_words.specs.Operations.{operation_of};
 ghost use Rattle.rv32i_words.specs.Search.{first_in};
-ghost use Rattle.rv32i_words.specs.Words.{decoded, taken_apart, Undone};
+ghost use Rattle.rv32i_words.specs.Words.{decoded, instruction_in, Undone};
 
 use crate::field::Field;
 use crate::fields::{immediate_b, immediate_i, immediate_j, immediate_s, immediate_u, register_at};
@@ -32,209 +31,60 @@ const BY_FUNCT7: u32 = 0xfe00_707f;
 /// By all its bits.
 const BY_ALL: u32 = 0xffff_ffff;
 
-/// One row for each of the forty.
-const ROWS: [Row; 40] = [
-    Row {
-        mask: BY_OPCODE,
-        value: 0x37,
-        operation: Operation::Lui,
-    },
-    Row {
-        mask: BY_OPCODE,
-        value: 0x17,
-        operation: Operation::Auipc,
-    },
-    Row {
-        mask: BY_OPCODE,
-        value: 0x6f,
-        operation: Operation::Jal,
-    },
-    Row {
-        mask: BY_FUNCT3,
-        value: 0x67,
-        operation: Operation::Jalr,
-    },
-    Row {
-        mask: BY_FUNCT3,
-        value: 0x63,
-        operation: Operation::Branch(Condition::Eq),
-    },
-    Row {
-        mask: BY_FUNCT3,
-        value: 0x1063,
-        operation: Operation::Branch(Condition::Ne),
-    },
-    Row {
-        mask: BY_FUNCT3,
-        value: 0x4063,
-        operation: Operation::Branch(Condition::Lt),
-    },
-    Row {
-        mask: BY_FUNCT3,
-        value: 0x5063,
-        operation: Operation::Branch(Condition::Ge),
-    },
-    Row {
-        mask: BY_FUNCT3,
-        value: 0x6063,
-        operation: Operation::Branch(Condition::Ltu),
-    },
-    Row {
-        mask: BY_FUNCT3,
-        value: 0x7063,
-        operation: Operation::Branch(Condition::Geu),
-    },
-    Row {
-        mask: BY_FUNCT3,
-        value: 0x3,
-        operation: Operation::Load(LoadKind::Byte),
-    },
-    Row {
-        mask: BY_FUNCT3,
-        value: 0x1003,
-        operation: Operation::Load(LoadKind::Half),
-    },
-    Row {
-        mask: BY_FUNCT3,
-        value: 0x2003,
-        operation: Operation::Load(LoadKind::Word),
-    },
-    Row {
-        mask: BY_FUNCT3,
-        value: 0x4003,
-        operation: Operation::Load(LoadKind::ByteUnsigned),
-    },
-    Row {
-        mask: BY_FUNCT3,
-        value: 0x5003,
-        operation: Operation::Load(LoadKind::HalfUnsigned),
-    },
-    Row {
-        mask: BY_FUNCT3,
-        value: 0x23,
-        operation: Operation::Store(StoreKind::Byte),
-    },
-    Row {
-        mask: BY_FUNCT3,
-        value: 0x1023,
-        operation: Operation::Store(StoreKind::Half),
-    },
-    Row {
-        mask: BY_FUNCT3,
-        value: 0x2023,
-        operation: Operation::Store(StoreKind::Word),
-    },
-    Row {
-        mask: BY_FUNCT3,
-        value: 0x13,
-        operation: Operation::Immediate(ImmediateOp::Add),
-    },
-    Row {
-        mask: BY_FUNCT3,
-        value: 0x2013,
-        operation: Operation::Immediate(ImmediateOp::Slt),
-    },
-    Row {
-        mask: BY_FUNCT3,
-        value: 0x3013,
-        operation: Operation::Immediate(ImmediateOp::Sltu),
-    },
-    Row {
-        mask: BY_FUNCT3,
-        value: 0x4013,
-        operation: Operation::Immediate(ImmediateOp::Xor),
-    },
-    Row {
-        mask: BY_FUNCT3,
-        value: 0x6013,
-        operation: Operation::Immediate(ImmediateOp::Or),
-    },
-    Row {
-        mask: BY_FUNCT3,
-        value: 0x7013,
-        operation: Operation::Immediate(ImmediateOp::And),
-    },
-    Row {
-        mask: BY_FUNCT7,
-        value: 0x1013,
-        operation: Operation::Shift(ShiftOp::Sll),
-    },
-    Row {
-        mask: BY_FUNCT7,
-        value: 0x5013,
-        operation: Operation::Shift(ShiftOp::Srl),
-    },
-    Row {
-        mask: BY_FUNCT7,
-        value: 0x4000_5013,
-        operation: Operation::Shift(ShiftOp::Sra),
-    },
-    Row {
-        mask: BY_FUNCT7,
-        value: 0x33,
-        operation: Operation::Register(RegisterOp::Add),
-    },
-    Row {
-        mask: BY_FUNCT7,
-        value: 0x4000_0033,
-        operation: Operation::Register(RegisterOp::Sub),
-    },
-    Row {
-        mask: BY_FUNCT7,
-        value: 0x1033,
-        operation: Operation::Register(RegisterOp::Sll),
-    },
-    Row {
-        mask: BY_FUNCT7,
-        value: 0x2033,
-        operation: Operation::Register(RegisterOp::Slt),
-    },
-    Row {
-        mask: BY_FUNCT7,
-        value: 0x3033,
-        operation: Operation::Register(RegisterOp::Sltu),
-    },
-    Row {
-        mask: BY_FUNCT7,
-        value: 0x4033,
-        operation: Operation::Register(RegisterOp::Xor),
-    },
-    Row {
-        mask: BY_FUNCT7,
-        value: 0x5033,
-        operation: Operation::Register(RegisterOp::Srl),
-    },
-    Row {
-        mask: BY_FUNCT7,
-        value: 0x4000_5033,
-        operation: Operation::Register(RegisterOp::Sra),
-    },
-    Row {
-        mask: BY_FUNCT7,
-        value: 0x6033,
-        operation: Operation::Register(RegisterOp::Or),
-    },
-    Row {
-        mask: BY_FUNCT7,
-        value: 0x7033,
-        operation: Operation::Register(RegisterOp::And),
-    },
-    Row {
-        mask: BY_FUNCT3,
-        value: 0xf,
-        operation: Operation::Fence,
-    },
-    Row {
-        mask: BY_ALL,
-        value: 0x73,
-        operation: Operation::Ecall,
-    },
-    Row {
-        mask: BY_ALL,
-        value: 0x10_0073,
-        operation: Operation::Ebreak,
-    },
-];
+/// The rows of a table, each an operation, its mask and its value.
+macro_rules! rows {
+    ($($operation:expr, $mask:ident, $value:literal;)*) => {
+        [$(Row {
+            mask: $mask,
+            value: $value,
+            operation: $operation,
+        }),*]
+    };
+}
+
+/// One row for each of the forty, in the manual's order.
+const ROWS: [Row; 40] = rows! {
+    Operation::Lui, BY_OPCODE, 0x0000_0037;
+    Operation::Auipc, BY_OPCODE, 0x0000_0017;
+    Operation::Jal, BY_OPCODE, 0x0000_006f;
+    Operation::Jalr, BY_FUNCT3, 0x0000_0067;
+    Operation::Branch(Condition::Eq), BY_FUNCT3, 0x0000_0063;
+    Operation::Branch(Condition::Ne), BY_FUNCT3, 0x0000_1063;
+    Operation::Branch(Condition::Lt), BY_FUNCT3, 0x0000_4063;
+    Operation::Branch(Condition::Ge), BY_FUNCT3, 0x0000_5063;
+    Operation::Branch(Condition::Ltu), BY_FUNCT3, 0x0000_6063;
+    Operation::Branch(Condition::Geu), BY_FUNCT3, 0x0000_7063;
+    Operation::Load(LoadKind::Byte), BY_FUNCT3, 0x0000_0003;
+    Operation::Load(LoadKind::Half), BY_FUNCT3, 0x0000_1003;
+    Operation::Load(LoadKind::Word), BY_FUNCT3, 0x0000_2003;
+    Operation::Load(LoadKind::ByteUnsigned), BY_FUNCT3, 0x0000_4003;
+    Operation::Load(LoadKind::HalfUnsigned), BY_FUNCT3, 0x0000_5003;
+    Operation::Store(StoreKind::Byte), BY_FUNCT3, 0x0000_0023;
+    Operation::Store(StoreKind::Half), BY_FUNCT3, 0x0000_1023;
+    Operation::Store(StoreKind::Word), BY_FUNCT3, 0x0000_2023;
+    Operation::Immediate(ImmediateOp::Add), BY_FUNCT3, 0x0000_0013;
+    Operation::Immediate(ImmediateOp::Slt), BY_FUNCT3, 0x0000_2013;
+    Operation::Immediate(ImmediateOp::Sltu), BY_FUNCT3, 0x0000_3013;
+    Operation::Immediate(ImmediateOp::Xor), BY_FUNCT3, 0x0000_4013;
+    Operation::Immediate(ImmediateOp::Or), BY_FUNCT3, 0x0000_6013;
+    Operation::Immediate(ImmediateOp::And), BY_FUNCT3, 0x0000_7013;
+    Operation::Shift(ShiftOp::Sll), BY_FUNCT7, 0x0000_1013;
+    Operation::Shift(ShiftOp::Srl), BY_FUNCT7, 0x0000_5013;
+    Operation::Shift(ShiftOp::Sra), BY_FUNCT7, 0x4000_5013;
+    Operation::Register(RegisterOp::Add), BY_FUNCT7, 0x0000_0033;
+    Operation::Register(RegisterOp::Sub), BY_FUNCT7, 0x4000_0033;
+    Operation::Register(RegisterOp::Sll), BY_FUNCT7, 0x0000_1033;
+    Operation::Register(RegisterOp::Slt), BY_FUNCT7, 0x0000_2033;
+    Operation::Register(RegisterOp::Sltu), BY_FUNCT7, 0x0000_3033;
+    Operation::Register(RegisterOp::Xor), BY_FUNCT7, 0x0000_4033;
+    Operation::Register(RegisterOp::Srl), BY_FUNCT7, 0x0000_5033;
+    Operation::Register(RegisterOp::Sra), BY_FUNCT7, 0x4000_5033;
+    Operation::Register(RegisterOp::Or), BY_FUNCT7, 0x0000_6033;
+    Operation::Register(RegisterOp::And), BY_FUNCT7, 0x0000_7033;
+    Operation::Fence, BY_FUNCT3, 0x0000_000f;
+    Operation::Ecall, BY_ALL, 0x0000_0073;
+    Operation::Ebreak, BY_ALL, 0x0010_0073;
+};
 
 /// The operation of the first row that the word fits.
 fn first_fit(rows: &[Row], word: u32) -> Option<Operation>
@@ -255,7 +105,7 @@ pub fn operation_of(word: u32) -> Option<Operation>
 
 /// The instruction, with the registers and the immediate that its format has in the word.
 fn take_apart(operation: Operation, word: u32) -> Instruction
-    ensures { result ≡ taken_apart operation (rd_of word) (funct3_of word) (rs1_of word) (rs2_of word) (funct7_of word) }
+    ensures { result ≡ instruction_in operation word }
 {
     let rd = register_at(word, 7);
     let rs1 = register_at(word, 15);
@@ -328,7 +178,7 @@ pub fn decode(word: u32) -> Option<Instruction>
 pub fn issue(word: u32) -> Result<MicroOp, Cause>
     ensures { Gives (issued word) result }
 {
-    let instruction = decode(word).ok_or(Cause::Illegal)?;
+    let instruction = decode(word).ok_or(Cause::IllegalInstruction)?;
     match instruction {
         Instruction::Ebreak => Err(Cause::Breakpoint),
         Instruction::Ecall => Err(Cause::EnvironmentCall),

@@ -26,9 +26,9 @@ const LOAD: Field<7> = Field { value: 0x03 };
 
 const STORE: Field<7> = Field { value: 0x23 };
 
-const IMMEDIATE: Field<7> = Field { value: 0x13 };
+const OP_IMM: Field<7> = Field { value: 0x13 };
 
-const REGISTER: Field<7> = Field { value: 0x33 };
+const OP: Field<7> = Field { value: 0x33 };
 
 const JALR_FUNCT3: Field<3> = Field { value: 0 };
 
@@ -104,7 +104,7 @@ struct Codes {
 }
 
 impl From<ShiftOp> for Codes {
-    ghost from_gives = { λ op x. (x.funct3.value ≡ (shift_codes op).0) × (x.funct7.value ≡ (shift_codes op).1) };
+    ghost from_gives = { λ op x. (x.funct3.value, x.funct7.value) ≡ shift_codes op };
 
     fn from(op: ShiftOp) -> Codes {
         let (funct3, funct7) = match op {
@@ -120,7 +120,7 @@ impl From<ShiftOp> for Codes {
 }
 
 impl From<RegisterOp> for Codes {
-    ghost from_gives = { λ op x. (x.funct3.value ≡ (register_codes op).0) × (x.funct7.value ≡ (register_codes op).1) };
+    ghost from_gives = { λ op x. (x.funct3.value, x.funct7.value) ≡ register_codes op };
 
     fn from(op: RegisterOp) -> Codes {
         let (funct3, funct7) = match op {
@@ -251,7 +251,7 @@ fn word_shift(op: ShiftOp, rd: Register, rs1: Register, amount: u8) -> Result<u3
     }
     let codes = Codes::from(op);
     let fields = Fields {
-        opcode: IMMEDIATE,
+        opcode: OP_IMM,
         rd: rd.into(),
         funct3: codes.funct3,
         rs1: rs1.into(),
@@ -269,7 +269,7 @@ fn word_r(op: RegisterOp, rd: Register, rs1: Register, rs2: Register) -> u32
 {
     let codes = Codes::from(op);
     let fields = Fields {
-        opcode: REGISTER,
+        opcode: OP,
         rd: rd.into(),
         funct3: codes.funct3,
         rs1: rs1.into(),
@@ -305,9 +305,7 @@ fn word_for(instruction: Instruction) -> Result<u32, Refusal>
             rs2,
             offset,
         } => word_s(STORE, kind.into(), rs1, rs2, offset),
-        Instruction::Immediate { op, rd, rs1, imm } => {
-            word_i(IMMEDIATE, op.into(), rd, rs1, imm)
-        }
+        Instruction::Immediate { op, rd, rs1, imm } => { word_i(OP_IMM, op.into(), rd, rs1, imm) }
         Instruction::Shift {
             op,
             rd,

@@ -1,6 +1,7 @@
 //! A field of a word.
 ghost use Rattle.std.specs.Prelude.{◌≡◌, ◌+◌, ◌-◌, ◌*◌, ◌/◌, ◌%◌, ◌^◌, ◌<◌, ◌≤◌};
-ghost use Rattle.base.specs.Refusals.{Says};
+ghost use Rattle.base.specs.Refusals.{number, Says};
+ghost use Rattle.base.specs.declared.refusal.Refusal.TheVariants.{NoWord};
 ghost use Rattle.rv32i.specs.Signs.{signed};
 ghost use Rattle.rv32i_words.specs.Immediates.{low_bits, IsInRange, branch_low};
 
@@ -60,14 +61,15 @@ impl<const BITS: u32> Field<BITS> {
     }
 
     /// The field that has that signed number; refused where there is none.
-    pub(crate) fn of_signed(number: i32) -> Result<Field<BITS>, Refusal>
+    pub(crate) fn of_signed(signed_value: i32) -> Result<Field<BITS>, Refusal>
         requires { (0 < BITS) × (BITS ≤ 30) }
-        ensures { Says (λ x. IsInRange (2 ^ (BITS - 1)) number × (x.value ≡ low_bits (2 ^ (BITS - 1)) number))
-            (λ why. (why ≡ 10) × ¬ IsInRange (2 ^ (BITS - 1)) number) result }
+        ensures { let half = 2 ^ (BITS - 1) in
+            Says (λ x. IsInRange half signed_value × (x.value ≡ low_bits half signed_value))
+            (λ why. (why ≡ number NoWord) × ¬ IsInRange half signed_value) result }
     {
-        let field = Field::at(number.cast_unsigned(), 0);
+        let field = Field::at(signed_value.cast_unsigned(), 0);
         let half = field.half() as i32;
-        if number < -half || number >= half {
+        if signed_value < -half || signed_value >= half {
             return Err(Refusal::NoWord);
         }
         Ok(field)
@@ -76,7 +78,7 @@ impl<const BITS: u32> Field<BITS> {
     /// Itself; refused where it is odd.
     pub(crate) fn even(self) -> Result<Field<BITS>, Refusal>
         ensures { Says (λ x. (x.value ≡ self.entry.value) × (x.value % 2 ≡ 0))
-            (λ why. (why ≡ 10) × ¬ (self.entry.value % 2 ≡ 0)) result }
+            (λ why. (why ≡ number NoWord) × ¬ (self.entry.value % 2 ≡ 0)) result }
     {
         if self.value % 2 == 0 {
             Ok(self)
@@ -88,7 +90,8 @@ impl<const BITS: u32> Field<BITS> {
     /// The top bit and bits 10 to 5 of an offset, which stand in `funct7`.
     #[tactic(auto, using(crate::proofs::Powers::half_doubled))]
     pub(crate) fn offset_high(self) -> Field<7>
-        ensures { result.value ≡ self.entry.value / 2 ^ (BITS - 1) * 2 ^ 6 + self.entry.value / 2 ^ 5 % 2 ^ 6 }
+        ensures { result.value
+            ≡ self.entry.value / 2 ^ (BITS - 1) * 2 ^ 6 + self.entry.value / 2 ^ 5 % 2 ^ 6 }
     {
         Field::<1>::at(self.value, BITS - 1).above(Field::<6>::at(self.value, 5))
     }

@@ -29,7 +29,8 @@ impl Model for Entry {
 
     ghost inverse = { λ w. record { word = w; answer = issued w } };
 
-    ghost inverse_ok = { λ e h. ap (λ (a : Result Instruction Cause). record { word = e.word; answer = a }) (sym h) };
+    ghost inverse_ok = { λ e h.
+        ap (λ (a : Result Instruction Cause). record e { answer = a }) (sym h) };
 }
 
 impl Entry {
@@ -80,13 +81,13 @@ impl Memo {
     /// What the word at an address issues, or why it issues none; taken apart only where it is not the word that was
     /// remembered there.
     #[inline(always)]
-    pub fn issue(&mut self, address: u32, word: u32) -> Result<MicroOp, Cause>
-        ensures { result ≡ issued word }
+    pub fn issue(&mut self, address: u32, word: u32) -> &Result<MicroOp, Cause>
+        ensures { result.now ≡ issued word }
     {
         let entry = &mut self.entries[address as usize / 4 % ENTRIES];
         if entry.word != word {
             entry.remember(word);
         }
-        entry.answer
+        &entry.answer
     }
 }

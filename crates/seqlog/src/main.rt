@@ -1,14 +1,18 @@
 //! Reads an image from standard input, runs it on the sequential machine and prints what retired.
 #![tactic(auto)]
 
-use listing::answer::printed;
-use listing::program::sequence_of;
+use ending::ending_of;
+use seqtable::program::sequence_of;
 use std::io;
 use std::io::Read;
+use std::process::ExitCode;
 
-fn main(rt: HostRuntime) -> io::Result<()> {
+/// The status after a refusal.
+const REFUSED: u8 = 0;
+
+fn main(rt: HostRuntime) -> io::Result<ExitCode> {
     let mut image = Vec::new(rt.alloc());
     rt.stdin().read_to_end(&mut image)?;
-    let text = printed(rt.alloc(), sequence_of(rt.alloc(), image))?;
-    print!(rt; "{text}")
+    let ending = ending_of(rt.alloc(), sequence_of(rt.alloc(), image), REFUSED)?;
+    ending.print(&rt)
 }

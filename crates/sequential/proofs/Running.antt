@@ -1,26 +1,18 @@
 -- Steps in a row, one more at a time. Assumes nothing.
 use Rattle.std.proofs.Common.{◌≡◌, ℕ, ◌+◌, ◌-◌, ◌<◌, ◌≤◌, List, [], ◌∷◌, ◌++◌, length, drop, Some, None, Ok, Err, IsSome, Option, Result, sym, refl, ap, ◌∙◌, append_assoc, append-nil, length-append, arith}
 use Rattle.std.proofs.lemmas.List.{drop-drop}
-use Rattle.base.specs.Refusals.{Says}
-use Rattle.base.specs.declared.refusal.Refusal.{Refusal}
 use Rattle.rv32i.specs.declared.cause.Cause.{Cause}
 use Rattle.sequential.proofs.Stopping.{same_stop}
-use Rattle.sequential.specs.Runs.{Steps, none, more, recorded, Ran}
+use Rattle.sequential.specs.Runs.{Steps, none, more, records_of, RunsTo}
 use Rattle.sequential.specs.Sequential.{State, World, Step, step}
 use Rattle.sequential.specs.Stepping.{stop_at, Comes, Stepped}
 use Rattle.sequential.specs.declared.record.Retired.{Retired}
 use Rattle.sequential.specs.declared.record.Retirement.{Retirement}
 use Rattle.sequential.specs.declared.record.Stop.{Stop}
 
-recorded_more : (h : List Retirement) (r : Retirement) → recorded (h ++ r ∷ []) ≡ recorded h ++ (r.retired ∷ [])
-recorded_more [] r = refl
-recorded_more (x ∷ h) r = ap (λ (l : List Retired). x.retired ∷ l) (recorded_more h r)
-
--- a log with a slot left takes it
-pub slot_taken : {R : Type 0} (r : Result (Unit {0}) Refusal) (before : List R) (room : ℕ) (A B C : Type 0) → length before < room
-    → Says (λ _. (length before < room) × A × B) (λ why. (why ≡ 6) × (room ≤ length before) × C) r → B
-slot_taken (Ok u) before room A B C l h = h.2
-slot_taken (Err why) before room A B C l h = absurd (omega (arith, h.1))
+records_of_more : (h : List Retirement) (r : Retirement) → records_of (h ++ r ∷ []) ≡ records_of h ++ (r.retired ∷ [])
+records_of_more [] r = refl
+records_of_more (x ∷ h) r = ap (λ (l : List Retired). x.retired ∷ l) (records_of_more h r)
 
 pub none_taken : {R : Type 0} (before first : List R) → first ≡ drop (length before - length before) first
 none_taken before first =
@@ -39,7 +31,7 @@ module _ (world : World) where
   pub record SoFar (stopped : Option Stop) (s : State) (before : List Retired) (t : State) (after : List Retired) : Type 0 where
     pub retirements : List Retirement
     pub steps : Steps world s retirements t
-    pub logged : after ≡ before ++ recorded retirements
+    pub logged : after ≡ before ++ records_of retirements
     pub for_good : IsSome stopped → retirements ≡ []
 
   pub nothing : (stopped : Option Stop) (s : State) (before : List Retired) → SoFar stopped s before s before
@@ -63,8 +55,8 @@ module _ (world : World) where
           retirements = k.retirements ++ y.retirement ∷ [];
           steps = rw h.1 (more y k.steps e);
           logged =
-              a ∙ ap (λ (l : List Retired). l ++ (r.retired ∷ [])) k.logged ∙ append_assoc before (recorded k.retirements) (r.retired ∷ [])
-              ∙ ap (λ (l : List Retired). before ++ l) (sym (recorded_more k.retirements r) ∙ ap (λ (x : Retirement). recorded (k.retirements ++ x ∷ [])) h.0);
+              a ∙ ap (λ (l : List Retired). l ++ (r.retired ∷ [])) k.logged ∙ append_assoc before (records_of k.retirements) (r.retired ∷ [])
+              ∙ ap (λ (l : List Retired). before ++ l) (sym (records_of_more k.retirements r) ∙ ap (λ (x : Retirement). records_of (k.retirements ++ x ∷ [])) h.0);
           for_good = λ some. cc;
         },
         h.2,
@@ -76,7 +68,7 @@ module _ (world : World) where
 
     -- the step that stops
     module _ (room : ℕ) (l : length mid < room) (stop : Stop) (q : Option Stop) where
-      stop_by : SoFar None s before t mid → (x : Result Step Cause) → step world t ≡ x → Comes t x (Err stop) u q → Ran world None s room before (Some stop) u mid
+      stop_by : SoFar None s before t mid → (x : Result Step Cause) → step world t ≡ x → Comes t x (Err stop) u q → RunsTo world None s room before (Some stop) u mid
       stop_by k (Ok y) e h = absurd h.0
       stop_by k (Err c) e h = record {
         retirements = k.retirements;
@@ -86,7 +78,7 @@ module _ (world : World) where
         ends = rw (h.1, e) (l, h.0);
       }
 
-      pub stops_at : (o : Option Stop) → SoFar o s before t mid → Stepped world t o (Err stop) u q → Ran world o s room before (Some stop) u mid
+      pub stops_at : (o : Option Stop) → SoFar o s before t mid → Stepped world t o (Err stop) u q → RunsTo world o s room before (Some stop) u mid
       stops_at None k h = stop_by k (step world t) refl h
       stops_at (Some old) k h = record {
         retirements = k.retirements;
@@ -108,5 +100,5 @@ module _ (world : World) where
 
   -- the log is full
   module _ {s : State} {before : List Retired} (t : State) (mid : List Retired) (o : Option Stop) (k : SoFar o s before t mid) (room : ℕ) (l : room ≤ length mid) where
-    pub full : Ran world o s room before None t mid
+    pub full : RunsTo world o s room before None t mid
     full = record { retirements = k.retirements; steps = k.steps; logged = k.logged; for_good = k.for_good; ends = l }

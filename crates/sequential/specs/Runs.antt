@@ -22,8 +22,8 @@ StopsAt world None t n a = CauseSays (λ _. ⊥) (λ cause. n ≡ cause) (step w
 StopsAt world (Some old) t n a = (n ≡ cause_number old.cause) × (a ≡ old.address)
 
 -- a run that came to t ends: the log is full, or there is room and the machine stops
-abbrev pub Ends : World → Option Stop → State → ℕ → ℕ → Option Stop → Type 0
-Ends world stopped t room filled = RunSays (room ≤ filled) (λ n a. (filled < room) × StopsAt world stopped t n a)
+abbrev pub RunEnds : World → Option Stop → State → ℕ → ℕ → Option Stop → Type 0
+RunEnds world stopped t room filled = RunSays (room ≤ filled) (λ n a. (filled < room) × StopsAt world stopped t n a)
 
 -- whether a machine has stopped after a run with that answer, where it had stopped so before
 abbrev pub stopped_after : Option Stop → Option Stop → Option Stop
@@ -31,13 +31,13 @@ stopped_after before None = before
 stopped_after before (Some stop) = Some stop
 
 -- the records of retirements
-abbrev pub recorded : List Retirement → List Retired
-recorded = map (λ r. r.retired)
+abbrev pub records_of : List Retirement → List Retired
+records_of = map (λ r. r.retired)
 
 -- a run from s to t into a log with that room and those records before; where the machine had stopped, nothing retires
-pub record Ran (world : World) (stopped : Option Stop) (s : State) (room : ℕ) (before : List Retired) (r : Option Stop) (t : State) (after : List Retired) : Type 0 where
+pub record RunsTo (world : World) (stopped : Option Stop) (s : State) (room : ℕ) (before : List Retired) (r : Option Stop) (t : State) (after : List Retired) : Type 0 where
   pub retirements : List Retirement
   pub steps : Steps world s retirements t
-  pub logged : after ≡ before ++ recorded retirements
+  pub logged : after ≡ before ++ records_of retirements
   pub for_good : IsSome stopped → retirements ≡ []
-  pub ends : Ends world stopped t room (length after) r
+  pub ends : RunEnds world stopped t room (length after) r

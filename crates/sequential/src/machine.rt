@@ -1,12 +1,13 @@
 //! The machine that runs.
-ghost use Rattle.std.specs.Prelude.{◌≡◌, ◌%◌, ◌<◌, ◌≤◌, replicate, None, IsSome};
+ghost use Rattle.std.specs.Prelude.{◌≡◌, ◌%◌, replicate, None, IsSome};
 ghost use Rattle.memory.specs.Meaning.{Same, ByteRead};
 ghost use Rattle.rv32i.specs.Causes.{Gives};
 ghost use Rattle.rv32i.specs.Registers.{RegisterRead};
 ghost use Rattle.rv32i.specs.Effects.{request};
-ghost use Rattle.sequential.specs.Sequential.{fetch, step};
-ghost use Rattle.sequential.specs.Stepping.{fetched, completed, world_of, state_of, Transferred, Advances, Stepped};
+ghost use Rattle.sequential.specs.Sequential.{fetch};
+ghost use Rattle.sequential.specs.Stepping.{fetched_word, value_by_reply, Transferred, AdvancesFrom, StepsFrom, SameWorld};
 
+use crate::fetch::fetchable;
 use crate::record::{Retired, Retirement, Stop};
 use base::bus::Request;
 use base::refusal::Refusal;
@@ -16,61 +17,60 @@ use rv32i::effect::{Access, loaded, request};
 use rv32i::registers::Registers;
 use rv32i_words::decoding::issue;
 
-/// The sequential machine over an image and a data memory. Where a memory waits, it is asked again until it does not.
+/// The sequential machine over an instruction memory and a data memory. Where a memory waits, it is asked again until it does not.
 #[derive(Drop)]
 pub struct Machine<I: Memory, D: Memory> {
     address: u32,
     registers: Registers,
-    image: I,
-    data: D,
+    instructions: I,
+    data_memory: D,
     stopped: Option<Stop>,
 }
 
 impl<I: Memory, D: Memory> Machine<I, D> {
     /// At the start address, with zero registers.
-    pub fn new(start: u32, image: I, data: D) -> Machine<I, D>
+    pub fn new(start: u32, instructions: I, data_memory: D) -> Machine<I, D>
         ensures address { result.address ≡ start }
         ensures registers { result.registers ≡ replicate 32 0 }
-        ensures memories { (result.image ≡ image) × (result.«data» ≡ «data») }
+        ensures memories { (result.instructions ≡ instructions)
+            × (result.data_memory ≡ data_memory) }
         ensures stopped { result.stopped ≡ None }
     {
         Machine {
             address: start,
             registers: Registers::new(),
-            image,
-            data,
+            instructions,
+            data_memory,
             stopped: None,
         }
     }
 }
 
 /// The word that a fetch was answered; no other answer has one.
-fn fetched(reply: Reply) -> Result<u32, Cause>
-    ensures { Gives (fetched reply) result }
+fn fetched_word(reply: Reply) -> Result<u32, Cause>
+    ensures { Gives (fetched_word reply) result }
 {
     match reply {
         Ok(Answer::Word(word)) => Ok(word),
-        Ok(Answer::Done) | Err(_) => Err(Cause::FetchOutside),
+        Ok(Answer::Done) | Err(_) => Err(Cause::InstructionAccessFault),
     }
 }
 
-/// The word at an address of the image, or why there is none.
-#[tactic(auto, using(crate::proofs::Answered::fetch_misaligned, crate::proofs::Answered::fetches, memory::proofs::Rules::same_as))]
-fn fetch<I: Memory>(image: &mut I, address: u32) -> Result<u32, Cause>
+/// The word at an address of the instruction memory, or why there is none.
+#[tactic(auto, using(crate::proofs::Answered::fetch_faults, crate::proofs::Answered::fetches, memory::proofs::Rules::same_as))]
+fn fetch<I: Memory>(instructions: &mut I, address: u32) -> Result<u32, Cause>
     ensures word { let view = I.Memory.means.view in
-        Gives (fetch (view.size image.old) (view.byte image.old) address) result }
-    ensures same { Same I.Memory.means.view image.old image.new }
+        Gives (fetch (view.size instructions.old) (view.byte instructions.old) address) result }
+    ensures same { Same I.Memory.means.view instructions.old instructions.new }
 {
-    if address % 4 != 0 {
-        return Err(Cause::JumpMisaligned);
-    }
-    let answer = insist(image, Request::Read { address });
-    fetched(answer.reply)
+    fetchable(instructions.size(), address)?;
+    let answer = insist(instructions, Request::Read { address });
+    fetched_word(answer.reply)
 }
 
 /// The value of an instruction that has the result of its execution, once the data memory has replied.
-fn completed(access: Option<Access>, res: u32, reply: Reply) -> u32
-    ensures { result ≡ completed access res reply }
+fn value_by_reply(access: Option<Access>, res: u32, reply: Reply) -> u32
+    ensures { result ≡ value_by_reply access res reply }
 {
     match reply {
         Ok(Answer::Word(word)) => loaded(access, res, word),
@@ -80,14 +80,21 @@ fn completed(access: Option<Access>, res: u32, reply: Reply) -> u32
 
 /// Does an instruction's part in the data memory, if it has one, and gives its value.
 #[tactic(auto, using(crate::proofs::Answered::transfers))]
-fn transfer<D: Memory>(data: &mut D, access: Option<Access>, res: u32, b: u32) -> Result<u32, Cause>
-    ensures { Transferred D.Memory.means.view «data».old (request (D.Memory.means.view.size «data».old) access res b) access res result «data».new }
+fn transfer<D: Memory>(
+    data_memory: &mut D,
+    access: Option<Access>,
+    res: u32,
+    b: u32,
+) -> Result<u32, Cause>
+    ensures { let view = D.Memory.means.view in
+        Transferred view data_memory.old (request (view.size data_memory.old) access res b)
+        access res result data_memory.new }
 {
-    match request(data.size(), access, res, b)? {
+    match request(data_memory.size(), access, res, b)? {
         None => Ok(res),
         Some(request) => {
-            let answer = insist(data, request);
-            Ok(completed(access, res, answer.reply))
+            let answer = insist(data_memory, request);
+            Ok(value_by_reply(access, res, answer.reply))
         }
     }
 }
@@ -95,17 +102,23 @@ fn transfer<D: Memory>(data: &mut D, access: Option<Access>, res: u32, b: u32) -
 impl<I: Memory, D: Memory> Machine<I, D> {
     /// Does the instruction at the machine's address, unless there is a cause to stop.
     fn advance(&mut self) -> Result<Retirement, Cause>
-        ensures does { Advances (state_of D.Memory.means.view self.old) (step (world_of I.Memory.means.view D.Memory.means.view self.old) (state_of D.Memory.means.view self.old)) result (state_of D.Memory.means.view self.new) }
-        ensures world { world_of I.Memory.means.view D.Memory.means.view self.new ≡ world_of I.Memory.means.view D.Memory.means.view self.old }
+        ensures does { AdvancesFrom I.Memory.means.view D.Memory.means.view self.old result
+            self.new }
+        ensures world { SameWorld I.Memory.means.view D.Memory.means.view self.old self.new }
         ensures stopped { self.new.stopped ≡ self.old.stopped }
     {
         let address = self.address;
-        let word = fetch(&mut self.image, address)?;
+        let word = fetch(&mut self.instructions, address)?;
         let instruction = issue(word)?;
         let a = self.registers.read(instruction.first_source());
         let b = self.registers.read(instruction.second_source());
         let effect = instruction.execute(address, a, b)?;
-        let value = transfer(&mut self.data, instruction.access(), effect.result, b)?;
+        let value = transfer(
+            &mut self.data_memory,
+            instruction.access(),
+            effect.result,
+            b,
+        )?;
         let rd = instruction.destination();
         self.registers.write(rd, value);
         self.address = effect.next;
@@ -117,8 +130,8 @@ impl<I: Memory, D: Memory> Machine<I, D> {
 
     /// One instruction: it retires, or the machine stops for good and changes no more; then each step answers that stop.
     pub fn step(&mut self) -> Result<Retirement, Stop>
-        ensures does { Stepped (world_of I.Memory.means.view D.Memory.means.view self.old) (state_of D.Memory.means.view self.old) self.old.stopped result (state_of D.Memory.means.view self.new) self.new.stopped }
-        ensures world { world_of I.Memory.means.view D.Memory.means.view self.new ≡ world_of I.Memory.means.view D.Memory.means.view self.old }
+        ensures does { StepsFrom I.Memory.means.view D.Memory.means.view self.old result self.new }
+        ensures world { SameWorld I.Memory.means.view D.Memory.means.view self.old self.new }
         ensures for_good { IsSome self.old.stopped → self.new ≡ self.old }
         ensures aligned { self.old.address % 4 ≡ 0 → self.new.address % 4 ≡ 0 }
     {
@@ -154,9 +167,9 @@ impl<I: Memory, D: Memory> Machine<I, D> {
 
     /// The data byte at an address; refused outside.
     pub fn byte(&self, address: u32) -> Result<u8, Refusal>
-        ensures { ByteRead D.Memory.means.view self.now.«data» address result }
+        ensures { ByteRead D.Memory.means.view self.now.data_memory address result }
     {
-        byte_at(&self.data, address)
+        byte_at(&self.data_memory, address)
     }
 
     /// Where and why the machine stopped, if it has.

@@ -4,8 +4,9 @@
 
 mod progress;
 
+use ending::Ending;
 use progress::Progress;
-use report::ending::{Ending, Stream, fault_ending, help_ending, run_ending};
+use report::endings::{fault_ending, help_ending, run_ending};
 use report::timing::timing_of;
 use setup::choice::Setup;
 use setup::options::{Command, command_of};
@@ -42,10 +43,5 @@ fn ending_of(rt: &HostRuntime, words: &[String]) -> anyhow::Result<Ending> {
 pub fn timing(rt: &HostRuntime) -> anyhow::Result<ExitCode> {
     let words = words_of(rt)?;
     let ending = ending_of(rt, words.as_slice())?;
-    let text = ending.text.as_str();
-    match ending.stream {
-        Stream::Output => print!(rt; "{text}")?,
-        Stream::Error => eprint!(rt; "{text}")?,
-    }
-    Ok(ExitCode::from(ending.status))
+    Ok(ending.print(rt)?)
 }

@@ -1,6 +1,6 @@
 //! Prints of a loop that stores, loads and counts down, held to prints of another model, and what is refused.
 use base::failure::Failure;
-use listing::image::bytes_of;
+use image::bytes_of;
 use longrun::run::Unwatched;
 use report::timing::timing_of;
 use setup::choice::{LayerChoice, PredictorChoice, Setup, SimpleChoice, StackChoice};

@@ -1,7 +1,7 @@
 //! The calls on a machine, accepted and refused.
 use base::refusal::Refusal;
 use clocking::state::ClockRecord;
-use listing::image::bytes_of;
+use image::bytes_of;
 use memory::Flat;
 use pipeline::journal::Journal;
 use pipeline::machine::{RetiredAt, check, load};

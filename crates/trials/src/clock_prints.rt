@@ -1,8 +1,7 @@
 //! Whole prints of small programs, worked out by hand from the clock rule.
 use clocking::state::ClockRecord;
 use clocktable::table::clock_table;
-use listing::image::{bytes_of, padded};
-use listing::program::data_memory;
+use image::{bytes_of, data_memory, padded};
 use memory::{Flat, Memory};
 use pipeline::journal::Journal;
 use pipeline::machine::{Machine, RetiredAt, load};

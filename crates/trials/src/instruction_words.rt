@@ -1,14 +1,14 @@
 //! Words beside their lines of assembly, worked out from the formats in the manual.
-use rv32i_text::assembly;
 use base::refusal::Refusal;
 use rv32i::effect::arithmetic;
 use rv32i::instruction::{
     Condition, ImmediateOp, Instruction, LoadKind, RegisterOp, ShiftOp, StoreKind,
 };
 use rv32i::register::Register;
-use std::test::Fail;
+use rv32i_text::assembly;
 use rv32i_words::decoding::decode;
 use rv32i_words::encoding::encode;
+use std::test::Fail;
 
 /// Each of the forty, with the ends of the ranges and the bits of the immediates that stand apart.
 const LINES: [(u32, &str); 47] = [

@@ -2,7 +2,7 @@
 use base::branch::Outcome;
 use base::log::Log;
 use base::refusal::Refusal;
-use listing::image::bytes_of;
+use image::bytes_of;
 use memory::Flat;
 use rv32i::cause::Cause;
 use rv32i::register::Register;

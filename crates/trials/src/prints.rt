@@ -1,10 +1,10 @@
 //! Whole prints of small programs, worked out by hand.
 use base::failure::Failure;
 use base::log::Log;
-use listing::image::{bytes_of, padded};
-use listing::program::sequence_of;
-use listing::sequence::sequence_text;
+use image::{bytes_of, padded};
 use memory::Flat;
+use seqtable::program::sequence_of;
+use seqtable::table::sequence_text;
 use sequential::machine::Machine;
 use sequential::record::Retired;
 use std::alloc::Global;

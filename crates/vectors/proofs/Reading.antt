@@ -7,13 +7,13 @@ use Rattle.vectors.specs.declared.image.Line.{Line}
 use Rattle.vectors.specs.declared.image.Line.TheVariants.{Image, Words, Run}
 
 pub parts_of : (text : List ℕ) (x : Bor (List ℕ) × Bor (List ℕ)) → IsSplitOnceResult 32 text (Some x) → Parts text x.0.now x.1.now
-parts_of text x h = let p = split_parts 32 text (Some x) h (lit< tt) in record { spaceless = p.1; text_so = p.0 }
+parts_of text x h = let p = split_parts 32 text (Some x) h (lit< tt) in record { spaceless = p.1; joined = p.0 }
 
 no_parts : (text word rest : List ℕ) → IsSplitOnceResult 32 text None → Parts text word rest → ⊥
-no_parts text word rest h p = split_after 32 text word rest None h (lit< tt) p.text_so p.spaceless
+no_parts text word rest h p = split_after 32 text word rest None h (lit< tt) p.joined p.spaceless
 
 same_parts : (text word rest : List ℕ) (x : Bor (List ℕ) × Bor (List ℕ)) → IsSplitOnceResult 32 text (Some x) → Parts text word rest → (x.0.now ≡ word) × (x.1.now ≡ rest)
-same_parts text word rest x h p = split_after 32 text word rest (Some x) h (lit< tt) p.text_so p.spaceless
+same_parts text word rest x h p = split_after 32 text word rest (Some x) h (lit< tt) p.joined p.spaceless
 
 no_number : (text word : List ℕ) (n : ℕ) → text ≡ word → Hexadecimal text None → Hexadecimal word (Some n) → ⊥
 no_number text word n e none some = none (subst (λ (t : List ℕ). Hexadecimal t (Some n)) (sym e) some).0
@@ -21,13 +21,13 @@ no_number text word n e none some = none (subst (λ (t : List ℕ). Hexadecimal 
 -- ---- behind the word image
 
 pub no_name : (text : List ℕ) → IsSplitOnceResult 32 text None → SaysNoHead text
-no_name text h (Image name start size) s = no_parts text name.now s.numbers h s.name_so
+no_name text h (Image name start size) s = no_parts text name.now s.numbers h s.behind_name
 no_name text h (Words address words) s = s
 no_name text h Run s = s
 
 module _ (text : List ℕ) (x : Bor (List ℕ) × Bor (List ℕ)) (named : IsSplitOnceResult 32 text (Some x)) where
   numbers_are : (name : List ℕ) (start size : ℕ) (s : Heads text name start size) → Parts x.1.now s.first s.second
-  numbers_are name start size s = subst (λ (t : List ℕ). Parts t s.first s.second) (sym (same_parts text name s.numbers x named s.name_so).1) s.numbers_so
+  numbers_are name start size s = subst (λ (t : List ℕ). Parts t s.first s.second) (sym (same_parts text name s.numbers x named s.behind_name).1) s.behind_start
 
   pub no_numbers : IsSplitOnceResult 32 x.1.now None → SaysNoHead text
   no_numbers h (Image name start size) s = no_parts x.1.now s.first s.second h (numbers_are name.now start size s)
@@ -36,12 +36,12 @@ module _ (text : List ℕ) (x : Bor (List ℕ) × Bor (List ℕ)) (named : IsSpl
 
   module _ (y : Bor (List ℕ) × Bor (List ℕ)) (both : IsSplitOnceResult 32 x.1.now (Some y)) where
     pub no_start : Hexadecimal y.0.now None → SaysNoHead text
-    no_start h (Image name start size) s = no_number y.0.now s.first start (same_parts x.1.now s.first s.second y both (numbers_are name.now start size s)).0 h s.start_so
+    no_start h (Image name start size) s = no_number y.0.now s.first start (same_parts x.1.now s.first s.second y both (numbers_are name.now start size s)).0 h s.start_reads
     no_start h (Words address words) s = s
     no_start h Run s = s
 
     pub no_size : Hexadecimal y.1.now None → SaysNoHead text
-    no_size h (Image name start size) s = no_number y.1.now s.second size (same_parts x.1.now s.first s.second y both (numbers_are name.now start size s)).1 h s.size_so
+    no_size h (Image name start size) s = no_number y.1.now s.second size (same_parts x.1.now s.first s.second y both (numbers_are name.now start size s)).1 h s.size_reads
     no_size h (Words address words) s = s
     no_size h Run s = s
 
@@ -50,10 +50,10 @@ module _ (text : List ℕ) (x : Bor (List ℕ) × Bor (List ℕ)) (named : IsSpl
       numbers = x.1.now;
       first = y.0.now;
       second = y.1.now;
-      name_so = parts_of text x named;
-      numbers_so = parts_of x.1.now y both;
-      start_so = a;
-      size_so = b;
+      behind_name = parts_of text x named;
+      behind_start = parts_of x.1.now y both;
+      start_reads = a;
+      size_reads = b;
     }
 
 -- ---- a whole line
@@ -67,7 +67,7 @@ image_is_word (suc (suc (suc (suc zero)))) l e = omega arith
 image_is_word (suc (suc (suc (suc (suc i))))) l e = omega arith
 
 image_parts : (text rest : List ℕ) → text ≡ codes "image " ++ rest → Parts text (codes "image") rest
-image_parts text rest e = record { spaceless = image_is_word; text_so = e }
+image_parts text rest e = record { spaceless = image_is_word; joined = e }
 
 image_is_no_number : (n : ℕ) → Hexadecimal (codes "image") (Some n) → ⊥
 image_is_no_number n h = let d = h.0.0.1.0 in omega arith
@@ -84,7 +84,7 @@ module _ (text : List ℕ) (x : Bor (List ℕ) × Bor (List ℕ)) (split : IsSpl
   no_address h r i Run s = r s
 
   pub image_line : (r : Option Line) → x.0.now ≡ codes "image" → (text ≡ codes "run" → ⊥) → MatchOption r (SaysNoHead x.1.now) (SaysHead x.1.now) → MatchOption r (SaysNothing text) (Says text)
-  image_line (Some (Image name start size)) i r h = (x.1.now, (parts_of text x split).text_so ∙ ap (λ (w : List ℕ). w ++ 32 ∷ x.1.now) i, h)
+  image_line (Some (Image name start size)) i r h = (x.1.now, (parts_of text x split).joined ∙ ap (λ (w : List ℕ). w ++ 32 ∷ x.1.now) i, h)
   image_line (Some (Words address words)) i r h = absurd h
   image_line (Some Run) i r h = absurd h
   image_line None i r h = none

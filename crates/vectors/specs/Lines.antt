@@ -11,17 +11,17 @@ IsWord text = EachIndex text (λ i. slice_index text i ≢ 32)
 -- a word, a space and a rest
 pub record Parts (text word rest : List ℕ) : Type 0 where
   pub spaceless : IsWord word
-  pub text_so : text ≡ word ++ (32 ∷ rest)
+  pub joined : text ≡ word ++ (32 ∷ rest)
 
 -- NAME START SIZE
 pub record Heads (text name : List ℕ) (start size : ℕ) : Type 0 where
   pub numbers : List ℕ
   pub first : List ℕ
   pub second : List ℕ
-  pub name_so : Parts text name numbers
-  pub numbers_so : Parts numbers first second
-  pub start_so : Hexadecimal first (Some start)
-  pub size_so : Hexadecimal second (Some size)
+  pub behind_name : Parts text name numbers
+  pub behind_start : Parts numbers first second
+  pub start_reads : Hexadecimal first (Some start)
+  pub size_reads : Hexadecimal second (Some size)
 
 -- the text behind the word image
 abbrev pub SaysHead : List ℕ → Line → Type 0

@@ -16,7 +16,8 @@ pub struct Image {
 impl Image {
     /// Zeros.
     pub fn new(heap: Global, name: &str, start: u32, size: u32) -> Result<Image, AllocError>
-        ensures { IfOk result (λ i. (string_bytes i.name ≡ name.now) × (i.start ≡ start) × (i.memory.items ≡ replicate size 0)) }
+        ensures { IfOk result (λ i. (string_bytes i.name ≡ name.now) × (i.start ≡ start)
+            × (i.memory.items ≡ replicate size 0)) }
     {
         Ok(Image {
             name: String::from_str(heap, name)?,

@@ -1,14 +1,14 @@
 //! Clocks, one or many.
 ghost use Rattle.std.specs.Prelude.{◌≡◌};
 ghost use Rattle.clocking.specs.declared.state.Event.{Event};
-ghost use Rattle.pipeline.specs.Calls.{Ticked, ClockedInto, RanInto, HeardRun, refusal_at};
+ghost use Rattle.pipeline.specs.Calls.{Ticked, ClockInto, RunInto, HeardRun, refusal_at};
 ghost use Rattle.pipeline.specs.Logged.{logs, SameSlots, Tested};
 
 use crate::journal::Journal;
-use crate::listener::Listener;
 use crate::machine::{Machine, Run};
 use base::refusal::Refusal;
-use cycle::checked_cycle;
+use clock::cycle::checked_cycle;
+use clock::listener::Listener;
 use memory::Memory;
 use predictor::Predictor;
 
@@ -33,7 +33,7 @@ impl<P: Predictor, I: Memory, D: Memory> Machine<P, I, D> {
         Ok(())
     }
 
-    /// One clock, which nothing refuses, told to the listener.
+    /// One clock, which nothing refuses and the listener hears.
     #[inline(always)]
     fn tick<L: Listener>(&mut self, listener: &mut L)
         requires { refusal_at (L.Listener.full listener.old) self.old ≡ 0 }
@@ -41,14 +41,13 @@ impl<P: Predictor, I: Memory, D: Memory> Machine<P, I, D> {
             × Ticked P.Predictor.table I.Memory.means D.Memory.means self.old e self.new
             × L.Listener.heard listener.old e listener.new }
     {
-        let event = checked_cycle(&mut self.core).unwrap();
-        listener.hear(&event);
+        checked_cycle(&mut self.core, listener);
     }
 
-    /// One clock. What it tells is added to the journal: the clock, and what retires in it. A clock that is refused alters
-    /// nothing: neither the machine nor any slot of the journal.
+    /// One clock. Its record is added to the journal, and that of what retires in it. A clock that is refused alters nothing:
+    /// neither the machine nor any slot of the journal.
     pub fn clock(&mut self, journal: &mut Journal) -> Result<(), Refusal>
-        ensures does { ClockedInto P.Predictor.table I.Memory.means D.Memory.means
+        ensures does { ClockInto P.Predictor.table I.Memory.means D.Memory.means
             (logs journal.old) self.old result (logs journal.new) self.new }
         ensures slots { SameSlots journal.old journal.new }
     {
@@ -76,7 +75,7 @@ impl<P: Predictor, I: Memory, D: Memory> Machine<P, I, D> {
         Run { made: n, why: None }
     }
 
-    /// Up to `n` clocks in a row, each told to the listener, once, when it is made: how many were made, and the refusal of the
+    /// Up to `n` clocks in a row, each of which the listener hears when it is made: how many were made, and the refusal of the
     /// next where they are fewer. It is refused with 6 where the listener is full, and else as `run`.
     pub fn run_heard<L: Listener>(&mut self, n: u32, listener: &mut L) -> Run
         ensures { HeardRun L.Listener.heard L.Listener.full
@@ -95,7 +94,7 @@ impl<P: Predictor, I: Memory, D: Memory> Machine<P, I, D> {
     /// Up to `n` clocks in a row: how many were made, and the refusal of the next where they are fewer. The first test is
     /// made also where `n` is 0, and where it says no, its refusal is the reason.
     pub fn run(&mut self, n: u32, journal: &mut Journal) -> Run
-        ensures does { RanInto P.Predictor.table I.Memory.means D.Memory.means
+        ensures does { RunInto P.Predictor.table I.Memory.means D.Memory.means
             (logs journal.old) self.old n result (logs journal.new) self.new }
         ensures slots { SameSlots journal.old journal.new }
     {

@@ -1,5 +1,6 @@
-//! How a machine comes to be.
-ghost use Rattle.std.specs.Prelude.{◌≡◌};
+//! Loading a machine.
+ghost use Rattle.base.specs.Refusals.{number};
+ghost use Rattle.base.specs.declared.refusal.Refusal.TheVariants.{BadStart};
 ghost use Rattle.memory.specs.Meaning.{Checked};
 ghost use Rattle.pipeline.specs.Calls.{Loaded, load_fits};
 ghost use Rattle.pipeline.specs.Theorem.{Agrees};
@@ -17,7 +18,8 @@ use rv32i_words::memo::Memo;
 /// Whether a machine can be loaded so; refused where the serial is above 65535, or the start no multiple of 4 or outside the
 /// instruction memory.
 pub fn check<I: Memory>(serial: u32, start: u32, instructions: &I) -> Result<(), Refusal>
-    ensures { Checked (load_fits serial (I.Memory.means.view.size instructions.now) start) 3 result }
+    ensures { Checked (load_fits serial (I.Memory.means.view.size instructions.now) start)
+        (number BadStart) result }
 {
     if serial <= 65535 && is_within(instructions.size(), start) {
         Ok(())
@@ -33,10 +35,10 @@ pub fn load<P: Predictor, I: Memory, D: Memory>(
     start: u32,
     predictor: P,
     instructions: I,
-    data: D,
+    data_memory: D,
 ) -> Machine<P, I, D>
     ensures starts { Loaded (I.Memory.means.view.size instructions)
-        serial start predictor instructions «data» result }
+        serial start predictor instructions data_memory result }
     ensures agrees { Agrees P.Predictor.table I.Memory.means D.Memory.means result }
 {
     let f = if is_within(instructions.size(), start) {
@@ -66,7 +68,7 @@ pub fn load<P: Predictor, I: Memory, D: Memory>(
             memo: Memo::new(),
             predictor,
             instructions,
-            data,
+            data_memory,
         },
     }
 }

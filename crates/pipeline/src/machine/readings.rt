@@ -1,14 +1,14 @@
 //! What can be read of a machine, also while it is held and after it has stopped.
-ghost use Rattle.std.specs.Prelude.{◌≡◌, ◌<◌, ◌≤◌, slice_index};
+ghost use Rattle.std.specs.Prelude.{◌≡◌, ◌<◌};
 ghost use Rattle.memory.specs.Meaning.{ByteRead};
 ghost use Rattle.rv32i.specs.Registers.{RegisterRead};
 ghost use Rattle.pipeline.specs.Readings.{totals};
 
 use crate::machine::{Machine, Totals};
 use base::refusal::Refusal;
+use clock::counts::in_flight_count;
 use clocking::latch::Latches;
 use memory::{Memory, byte_at};
-use ports::counting::in_flight;
 use predictor::Predictor;
 use sequential::record::Stop;
 
@@ -36,9 +36,9 @@ impl<P: Predictor, I: Memory, D: Memory> Machine<P, I, D> {
 
     /// The data byte at an address; refused outside.
     pub fn byte(&self, address: u32) -> Result<u8, Refusal>
-        ensures { ByteRead D.Memory.means.view self.now.core.«data» address result }
+        ensures { ByteRead D.Memory.means.view self.now.core.data_memory address result }
     {
-        byte_at(&self.core.data, address)
+        byte_at(&self.core.data_memory, address)
     }
 
     /// The address to fetch.
@@ -62,7 +62,7 @@ impl<P: Predictor, I: Memory, D: Memory> Machine<P, I, D> {
         self.core.stopped
     }
 
-    /// How many clocks were made, and what became of the instructions.
+    /// The counts of clocks and of instructions.
     pub fn counts(&self) -> Totals
         ensures { result ≡ totals self.now }
     {
@@ -72,7 +72,7 @@ impl<P: Predictor, I: Memory, D: Memory> Machine<P, I, D> {
             fetched: core.counts.fetched,
             retired: core.counts.retired,
             dropped: core.counts.dropped,
-            in_flight: in_flight(&core.latches),
+            in_flight: in_flight_count(&core.latches),
             stopped: u32::from(core.stopped.is_some()),
         }
     }

@@ -16,7 +16,7 @@ use setup::choice::Setup;
 use std::alloc::{AllocError, Global};
 use std::fmt::Write;
 
-/// What the machine came to, with these gaps.
+/// The outcomes of a machine's run, with these gaps.
 fn outcomes_of<P: Predictor, I: Memory, D: Memory>(
     machine: &Machine<P, I, D>,
     gaps: &Gaps,
@@ -38,7 +38,8 @@ fn unlogged<P: Predictor, I: Memory, D: Memory, W: Watch>(
     watch: &mut W,
 ) -> Result<String, AllocError>
     requires { setup.now.log ≡ false }
-    ensures { IfOk result (λ t. Shown P.Predictor.table I.Memory.means D.Memory.means setup.now assembly.old.longest assembly.old.machine (string_bytes t)) }
+    ensures { IfOk result (λ t. Shown P.Predictor.table I.Memory.means D.Memory.means
+        setup.now assembly.old.longest assembly.old.machine (string_bytes t)) }
 {
     let mut gaps = Gaps::new();
     run_to(&mut assembly.machine, setup.clocks, &mut gaps, watch);
@@ -57,7 +58,8 @@ fn logged<P: Predictor, I: Memory, D: Memory>(
     assembly: &mut Assembly<P, I, D>,
 ) -> Result<String, AllocError>
     requires { setup.now.log ≡ true }
-    ensures { IfOk result (λ t. Shown P.Predictor.table I.Memory.means D.Memory.means setup.now assembly.old.longest assembly.old.machine (string_bytes t)) }
+    ensures { IfOk result (λ t. Shown P.Predictor.table I.Memory.means D.Memory.means
+        setup.now assembly.old.longest assembly.old.machine (string_bytes t)) }
 {
     let mut retired_slots = vec![in heap; RetiredAt::EMPTY; setup.clocks as usize]?;
     let mut clock_slots = vec![in heap; ClockRecord::EMPTY; setup.clocks as usize]?;
@@ -86,7 +88,8 @@ pub(crate) fn run_and_report<P: Predictor, I: Memory, D: Memory, W: Watch>(
     assembly: &mut Assembly<P, I, D>,
     watch: &mut W,
 ) -> Result<String, AllocError>
-    ensures { IfOk result (λ t. Shown P.Predictor.table I.Memory.means D.Memory.means setup.now assembly.old.longest assembly.old.machine (string_bytes t)) }
+    ensures { IfOk result (λ t. Shown P.Predictor.table I.Memory.means D.Memory.means
+        setup.now assembly.old.longest assembly.old.machine (string_bytes t)) }
 {
     if setup.log {
         logged(heap, setup, assembly)

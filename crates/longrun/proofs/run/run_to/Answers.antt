@@ -3,7 +3,8 @@ use Rattle.pipeline.specs.Calls.{is_stopped}
 use Rattle.pipeline.specs.Theorem.{no_entries, none}
 use Rattle.pipeline.specs.declared.machine.Totals.{Totals}
 use Rattle.longrun.proofs.Marking.{unmarked, marked_on}
-use Rattle.longrun.proofs.Stretches.{unrefused, clocks_on, held_on, not_past, some_made, stopped_short, reached_on}
+use Rattle.pipeline.proofs.RunFacts.{unrefused, clocks_on, held_on, not_past}
+use Rattle.longrun.proofs.Stretches.{some_made, stopped_short, reached_on}
 use Rattle.longrun.proofs.run.run_to.Given.{Over}
 use Rattle.longrun.proofs.run.run_to.Goals as goal
 
@@ -30,16 +31,16 @@ turn g c =
     let r = c.run_heard.result in
     let table = g.P.Predictor.table in
     let text = g.I.Memory.means in
-    let words = g.D.Memory.means in
-    let on = clocks_on table text words (λ _. false) m n r s.0 false p s.1.0 s.1.1 in
-    let past = not_past table text words (λ _. false) m n r s.0 false p s.1.0 s.1.1 in
+    let data_memory = g.D.Memory.means in
+    let on = clocks_on table text data_memory (λ _. false) m n r s.0 false p s.1.0 s.1.1 in
+    let past = not_past table text data_memory (λ _. false) m n r s.0 false p s.1.0 s.1.1 in
     let held : m.held ≡ false = search rules in
     let running : is_stopped m ≡ false = search rules in
     let free = unrefused m held running (omega arith) in
-    let some = some_made table text words m n r s.0 p s.1 free (omega arith) in
+    let some = some_made table text data_memory m n r s.0 p s.1 free (omega arith) in
     let clocks = clocks_of c.counts-clocks-in-loop-clocks.ensures in
     let whole : is_stopped p ≡ false → p.core.counts.clocks < c.args.limit → r.made < n → ⊥ =
-    λ go under short. true≢false (sym (stopped_short table text words m n r s.0 p s.1 held short (omega arith)) ∙ go) in
+    λ go under short. true≢false (sym (stopped_short table text data_memory m n r s.0 p s.1 held short (omega arith)) ∙ go) in
     record {
       counted = clocks;
       further = omega arith;
@@ -50,7 +51,7 @@ turn g c =
 
 pub loop-clocks-init : goal.loop-clocks-init
 loop-clocks-init g c =
-    let clocks = clocks_of c.counts-clocks.ensures in (record { history = []; put = no_entries; calls = none; gaps_so = refl }, clocks, (λ h. omega arith), refl, unmarked g.W.Watch.hears c.args.limit c.args.machine.now.core.counts.clocks c.args.watch.now (is_stopped c.args.machine.now))
+    let clocks = clocks_of c.counts-clocks.ensures in (record { history = []; put = no_entries; calls = none; gaps = refl }, clocks, (λ h. omega arith), refl, unmarked g.W.Watch.hears c.args.limit c.args.machine.now.core.counts.clocks c.args.watch.now (is_stopped c.args.machine.now))
 
 pub loop-clocks-smaller : goal.loop-clocks-smaller
 loop-clocks-smaller g c = let t = turn g c in let f = t.further in let b = t.not_beyond in omega arith

@@ -17,10 +17,10 @@ returns c =
     (λ t e. record {
       predictor = _;
       instructions = c.into_memory.result;
-      words = c.in_ok-data_memory.field-0;
-      image_so = ap vec_items c.into_memory.ensures.bytes;
+      data_memory = c.in_ok-data_memory.field-0;
+      holds_image = ap vec_items c.into_memory.ensures.bytes;
       image_whole = c.into_memory.ensures.size;
-      data_so = c.in_ok-data_memory.ensures.0;
+      holds_zeros = c.in_ok-data_memory.ensures.0;
       data_whole = c.in_ok-data_memory.ensures.1;
       first = c.load-machine.result;
       loaded = starts;
@@ -30,6 +30,6 @@ returns c =
       last = c.run.new.self;
       calls = whole.calls;
       finished = whole.finished starts.not_held starts.no_clocks;
-      shown = e ∙ (λ k. clock_table ((c.records.ensures ∙ whole.retired_so) k) ((c.records-2.ensures ∙ whole.clocks_so) k) (c.stopped.ensures k) (c.counts.ensures k));
+      shown = e ∙ (λ k. clock_table ((c.records.ensures ∙ whole.retired) k) ((c.records-2.ensures ∙ whole.clocks) k) (c.stopped.ensures k) (c.counts.ensures k));
     })
     c.clock_table.ensures

@@ -8,4 +8,4 @@ within (suc n) value zero h = h
 within (suc n) value (suc k) h = within n value k h
 
 pub invariant_of-result : goal.invariant_of-result
-invariant_of-result c = record { range = λ k. within 256 _ k (lit≤ tt) }
+invariant_of-result c = λ k. within 256 _ k (lit≤ tt)

@@ -1,4 +1,4 @@
 use Rattle.report.proofs.lines.BoundsLineDisplay.fmt.Goals as goal
 
 pub returns-clause-writes : goal.returns-clause-writes
-returns-clause-writes g c = rw (← c.within.ensures, ← c.within-2.ensures) c.writeln.ensures.writes
+returns-clause-writes g c = rw (← c.bound.ensures, ← c.bound-2.ensures) c.writeln.ensures.writes

@@ -11,7 +11,7 @@ returns g c =
     let w = c.args.assembly.now.longest in
     let table = g.P.Predictor.table in
     let text = g.I.Memory.means in
-    let words = g.D.Memory.means in
-    IfOk-weaker c.report.result (λ t. string_bytes t ≡ report_text s w c.outcomes_of.result) (λ t. Shown table text words s w c.args.assembly.now.machine (string_bytes t))
-    (λ t e. unlogged_shown table text words s w c.args.assembly.now.machine c.run_to.new.machine c.new-gaps.result c.run_to.new.gaps c.outcomes_of.result (string_bytes t) c.requires c.new-gaps.ensures c.run_to.ensures.ran c.outcomes_of.ensures e)
+    let data_memory = g.D.Memory.means in
+    IfOk-weaker c.report.result (λ t. string_bytes t ≡ report_text s w c.outcomes_of.result) (λ t. Shown table text data_memory s w c.args.assembly.now.machine (string_bytes t))
+    (λ t e. unlogged_shown table text data_memory s w c.args.assembly.now.machine c.run_to.new.machine c.new-gaps.result c.run_to.new.gaps c.outcomes_of.result (string_bytes t) c.requires c.new-gaps.ensures c.run_to.ensures.ran c.outcomes_of.ensures e)
     c.report.ensures

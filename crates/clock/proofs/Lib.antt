@@ -1,0 +1,3 @@
+pub mod DataAsked
+pub mod FetchAsked
+pub mod Forwarding

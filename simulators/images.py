@@ -8,8 +8,10 @@ import tempfile
 HERE = os.path.join(os.path.dirname(os.path.abspath(__file__)), "programs")
 
 TOOLS = "riscv64-unknown-elf-"
-FLAGS = ["-march=rv32i", "-mabi=ilp32", "-nostdlib", "-nostartfiles", "-ffreestanding", "-fno-builtin", "-static"]
+FLAGS = ["-march=rv32i", "-mabi=ilp32", "-nostartfiles", "-fno-builtin", "-static"]
 FLAGS += ["-Wl,--no-relax", "-Wl,--no-warn-rwx-segments", "-Wl,--build-id=none", "-T", os.path.join(HERE, "link.ld")]
+ALONE = ["-nostdlib", "-ffreestanding"]
+OVER_LIBRARY = ["-specs=picolibc.specs", "-DPICOLIBC_DOUBLE_PRINTF_SCANF"]
 
 # name, sources, flags, bytes of memory
 PROGRAMS = [
@@ -31,6 +33,13 @@ PROGRAMS = [
     ("matrix", ["matrix.c"], ["-O2"], 8192),
     ("list", ["list.c"], ["-O2"], 8192),
 ]
+
+# Programs over the C library, picolibc, and over GCC's, which check themselves: sources in programs/library.
+LIBRARY = ["sorting", "printing", "parsing", "floats", "functions", "odd", "heap", "jumps", "quotients", "texts", "bits"]
+LIBRARY += ["interpreter", "checksums"]
+
+# What is put behind the name, and flags: for speed, over the build of picolibc for that, and for size, over its build for that.
+LEVELS = [("", ["-O2", "--picolibc-buildtype=release"]), ("-small", ["-Os"])]
 
 # Stops: each cause that QEMU tells, from both sides of the line where it begins. The memory has 0x2000 bytes.
 STOPS = [
@@ -73,17 +82,12 @@ STOPS = [
 ]
 
 
-def build(sources, flags, size):
-    """The memory and the start of a program that is assembled or compiled, and linked."""
+def build(arguments, size):
+    """The memory and the start of a program that is compiled or assembled, and linked."""
     with tempfile.TemporaryDirectory() as folder:
         elf = os.path.join(folder, "elf")
         flat = os.path.join(folder, "flat")
-        files = [os.path.join(HERE, s) if not os.path.isabs(s) else s for s in sources]
-        if any(s.endswith(".c") for s in files):
-            files.insert(0, os.path.join(HERE, "start.s"))
-        subprocess.check_call(
-            [TOOLS + "gcc"] + FLAGS + flags + [f"-Wl,--defsym=MEMORY={size}", "-o", elf] + files + ["-lgcc"]
-        )
+        subprocess.check_call([TOOLS + "gcc"] + FLAGS + [f"-Wl,--defsym=MEMORY={size}", "-o", elf] + arguments)
         subprocess.check_call([TOOLS + "objcopy", "-O", "binary", elf, flat])
         header = subprocess.check_output([TOOLS + "readelf", "-h", elf], text=True)
         start = int(header.split("Entry point address:")[1].split()[0], 16)
@@ -94,8 +98,17 @@ def build(sources, flags, size):
 
 
 def program(name, sources, flags, size):
-    memory, start = build(sources, flags, size)
+    files = [os.path.join(HERE, source) for source in sources]
+    if any(source.endswith(".c") for source in sources):
+        files.insert(0, os.path.join(HERE, "start.s"))
+    memory, start = build(ALONE + flags + files + ["-lgcc"], size)
     return name, memory, start
+
+
+def library_program(name, suffix, flags):
+    files = [os.path.join(HERE, "library", source) for source in ["start.s", name + ".c"]]
+    memory, start = build(OVER_LIBRARY + flags + files + ["-lm"], 65536)
+    return f"library-{name}{suffix}", memory, start
 
 
 def stop(name, line):
@@ -103,7 +116,7 @@ def stop(name, line):
         source = os.path.join(folder, "stop.s")
         with open(source, "w") as file:
             file.write(".option norvc\n.section .text.start\n.globl _start\n_start:\n" + line.replace("; ", "\n") + "\n")
-        memory, start = build([source], [], 8192)
+        memory, start = build(ALONE + [source], 8192)
     return "stop-" + name, memory, start
 
 

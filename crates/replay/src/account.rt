@@ -1,5 +1,5 @@
 //! The account of a run: what retired, how it ended, and what the registers and the memory hold then.
-use seqtable::records::{EndText, RecordText};
+use seqtable::records::{RecordText, StopText};
 use sequential::record::{Retired, Stop};
 use std::alloc::{AllocError, Global};
 use std::fmt::Write;
@@ -56,12 +56,14 @@ impl Account {
 
     /// Adds how the run ended.
     pub fn end(&mut self, stop: Option<Stop>) -> Result<(), AllocError> {
+        match stop {
+            Some(stop) => write!(self.text, "stop {}", StopText(stop))?,
+            None => self.text.push_str("limit reached")?,
+        }
         writeln!(
             self.text,
-            "{} retired {} digest {:016x}",
-            EndText(stop),
-            self.retired,
-            self.digest.0
+            " retired {} digest {:016x}",
+            self.retired, self.digest.0
         )
     }
 
@@ -92,9 +94,8 @@ impl Account {
         )
     }
 
-    /// All that was told.
-    pub fn text(self) -> String {
-        let Account { text, .. } = self;
-        text
+    /// All that was told so far.
+    pub fn text(&self) -> &str {
+        self.text.as_str()
     }
 }

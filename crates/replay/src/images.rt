@@ -1,6 +1,7 @@
 //! Images on the machines.
-use crate::runner::account_of;
-use memory::Flat;
+use crate::account::Account;
+use crate::runner::{Runner, look, run};
+use memory::{Flat, is_within};
 use pipeline::machine::load;
 use predictor::gshare::Gshare;
 use predictor::never::Never;
@@ -17,36 +18,33 @@ fn flat(image: &Image) -> Result<Flat, AllocError> {
 }
 
 /// The account of the sequential machine.
-fn sequential(heap: Global, image: &Image) -> Result<String, AllocError> {
-    let machine = Machine::new(image.start, flat(image)?, flat(image)?);
-    account_of(heap, machine, image.memory.as_slice())
+fn sequential(heap: Global, image: &Image) -> Result<Account, AllocError> {
+    let mut machine = Machine::new(image.start, flat(image)?, flat(image)?);
+    let mut account = Account::new(heap);
+    run(&mut machine, &mut account)?;
+    look(&machine, image.memory.as_slice(), &mut account)?;
+    Ok(account)
 }
 
-/// The account of the pipeline over flat memories, with the predictor that never takes a branch.
-fn plain(heap: Global, image: &Image) -> Result<String, AllocError> {
-    let machine = load(0, image.start, Never, flat(image)?, flat(image)?);
-    account_of(heap, machine, image.memory.as_slice())
-}
-
-/// The account of the pipeline with gshare, an instruction memory with a wait state and a data memory with a write buffer over
-/// two wait states.
-fn layered(heap: Global, image: &Image) -> Result<String, AllocError> {
-    let instructions = WaitStates::new(flat(image)?, 1);
-    let data = WriteBuffer::new(WaitStates::new(flat(image)?, 2));
-    let machine = load(0, image.start, Gshare::new(), instructions, data);
-    account_of(heap, machine, image.memory.as_slice())
-}
-
-/// Adds the account of a pipeline, where it is not that of the sequential machine.
-fn note_difference(
-    text: &mut String,
+/// Adds the account of a pipeline, where it is not that of the sequential machine. One that reached the limit has only to have
+/// begun as that did.
+fn compare<R: Runner + Drop>(
+    heap: Global,
+    mut machine: R,
+    image: &Image,
     which: &str,
     expected: &str,
-    account: &str,
+    text: &mut String,
 ) -> Result<(), AllocError> {
-    if account != expected {
-        text.push_str(which)?;
-        text.push_str(account)?;
+    let mut account = Account::new(heap);
+    run(&mut machine, &mut account)?;
+    if machine.stop().is_none() && expected.starts_with(account.text()) {
+        return writeln!(text, "{which}: limit reached");
+    }
+    look(&machine, image.memory.as_slice(), &mut account)?;
+    if account.text() != expected {
+        writeln!(text, "{which}:")?;
+        text.push_str(account.text())?;
     }
     Ok(())
 }
@@ -54,23 +52,36 @@ fn note_difference(
 /// What the machines make of an image: the account of the sequential machine, and those of the pipelines that differ from it.
 pub fn replay(heap: Global, image: &Image) -> Result<String, AllocError> {
     let mut text = format!(in heap; "image {}\n", image.name)?;
-    let expected = sequential(heap, image)?;
-    text.push_str(expected.as_str())?; // compared before it is pushed
-    let account = plain(heap, image)?;
-    note_difference(
+    let account = sequential(heap, image)?;
+    text.push_str(account.text())?;
+
+    let plain = load(0, image.start, Never, flat(image)?, flat(image)?);
+    compare(
+        heap,
+        plain,
+        image,
+        "pipeline, never, flat",
+        account.text(),
         &mut text,
-        "pipeline, never, flat:\n",
-        expected.as_str(),
-        account.as_str(),
     )?;
-    let account = layered(heap, image)?;
-    note_difference(
+
+    let instructions = WaitStates::new(flat(image)?, 1);
+    let data = WriteBuffer::new(WaitStates::new(flat(image)?, 2));
+    let layered = load(0, image.start, Gshare::new(), instructions, data);
+    compare(
+        heap,
+        layered,
+        image,
+        "pipeline, gshare, write buffer",
+        account.text(),
         &mut text,
-        "pipeline, gshare, write buffer:\n",
-        expected.as_str(),
-        account.as_str(),
     )?;
     Ok(text)
+}
+
+/// Whether a memory can have this size, and a program start there.
+fn fits(start: u32, size: u32) -> bool {
+    Flat::check(size as usize).is_ok() && is_within(size, start)
 }
 
 /// Puts words in a row into an image, as far as they are numbers; none where one is not.
@@ -91,7 +102,11 @@ pub fn replay_all(heap: Global, text: &str) -> Result<String, AllocError> {
     for line in text.lines() {
         match line_of(line) {
             Some(Line::Image(name, start, size)) => {
-                image = Image::new(heap, name, start, size)?;
+                if fits(start, size) {
+                    image = Image::new(heap, name, start, size)?;
+                } else {
+                    writeln!(output, "no image: {line}")?;
+                }
             }
             Some(Line::Words(address, words)) => {
                 if put_words(&mut image, address, words).is_none() {

@@ -7,6 +7,8 @@ use std::io;
 mod account;
 mod images;
 mod runner;
+#[cfg(test)]
+mod tests;
 
 fn main(rt: HostRuntime) -> io::Result<()> {
     let text = io::read_to_string(rt.alloc(), rt.stdin())?;

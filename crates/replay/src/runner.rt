@@ -11,10 +11,10 @@ use sequential::record::{Retired, Stop};
 use std::alloc::{AllocError, Global};
 use vectors::digest::Digest;
 
-/// How many records a part of a run has room for.
+/// How many instructions or clocks a part of a run has at most.
 const ROOM: usize = 256;
 
-/// The most parts of a run.
+/// The most parts of a run, which so ends after 4194304 instructions of the sequential machine, or clocks of a pipeline.
 const PARTS: u32 = 16384;
 
 /// A machine of either kind.
@@ -108,21 +108,20 @@ fn memory<R: Runner>(machine: &R, image: &[u8], account: &mut Account) -> Result
     account.memory(digest)
 }
 
-/// Runs a machine that was loaded with this image, and gives the account of it.
-pub fn account_of<R: Runner + Drop>(
-    heap: Global,
-    mut machine: R,
-    image: &[u8],
-) -> Result<String, AllocError> {
-    let mut account = Account::new(heap);
+/// Runs a machine until it stops, or up to the limit, and adds what retires to an account.
+pub fn run<R: Runner>(machine: &mut R, account: &mut Account) -> Result<(), AllocError> {
     for _ in 0..PARTS {
         if machine.stop().is_some() {
             break;
         }
-        machine.run_on(&mut account)?;
+        machine.run_on(account)?;
     }
+    Ok(())
+}
+
+/// Adds how the run of a machine that was loaded with this image ended, and what the machine holds then.
+pub fn look<R: Runner>(machine: &R, image: &[u8], account: &mut Account) -> Result<(), AllocError> {
     account.end(machine.stop())?;
-    registers(&machine, &mut account)?;
-    memory(&machine, image, &mut account)?;
-    Ok(account.text())
+    registers(machine, account)?;
+    memory(machine, image, account)
 }

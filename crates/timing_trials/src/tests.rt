@@ -67,7 +67,7 @@ fn a_tournament_over_waiting_memories(rt: HostRuntime) -> Result<(), Fail> {
     let setup = Setup {
         predictor: PredictorChoice::Tournament(SimpleChoice::Bimodal, SimpleChoice::Gshare),
         instructions: waits(1),
-        data: StackChoice {
+        data_memory: StackChoice {
             top: Some(LayerChoice::WriteBuffer),
             middle: Some(LayerChoice::WaitStates(2)),
             ..StackChoice::FLAT
@@ -87,7 +87,7 @@ fn a_tournament_over_waiting_memories(rt: HostRuntime) -> Result<(), Fail> {
 fn nothing_retires_in_three_clocks(rt: HostRuntime) -> Result<(), Fail> {
     let setup = Setup {
         predictor: PredictorChoice::Simple(SimpleChoice::Backward),
-        data: StackChoice {
+        data_memory: StackChoice {
             top: Some(LayerChoice::WaitStates(15)),
             middle: Some(LayerChoice::WriteBuffer),
             bottom: Some(LayerChoice::WaitStates(3)),
@@ -128,7 +128,7 @@ fn three_buffers_and_few_bytes(rt: HostRuntime) -> Result<(), Fail> {
 fn the_tables_first(rt: HostRuntime) -> Result<(), Fail> {
     let setup = Setup {
         predictor: PredictorChoice::Simple(SimpleChoice::Gshare),
-        data: waits(2),
+        data_memory: waits(2),
         clocks: 12,
         log: true,
         ..Setup::DEFAULT
@@ -159,7 +159,7 @@ fn what_is_refused(rt: HostRuntime) -> Result<(), Fail> {
         &rt,
         heap,
         Setup {
-            data: waits(16),
+            data_memory: waits(16),
             ..Setup::DEFAULT
         },
         16,

@@ -1,2 +1,3 @@
+pub mod BoxReplays
 pub mod StackReplays
 pub mod Stacking

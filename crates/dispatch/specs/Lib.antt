@@ -1,3 +1,6 @@
+pub mod Boxes
+pub mod BoxLaws
 pub mod Layers
 pub mod Predictors
 pub mod Stacks
+pub mod Views

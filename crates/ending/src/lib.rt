@@ -4,11 +4,13 @@
 ghost use Rattle.std.specs.Prelude.{◌≡◌};
 ghost use Rattle.ending.specs.Endings.{EndingOf};
 
+mod message;
 #[cfg(test)]
 mod tests;
 
 use base::failure::Failure;
-use std::alloc::{AllocError, Global};
+pub use message::Message;
+use std::alloc::AllocError;
 use std::io;
 use std::process::ExitCode;
 
@@ -24,29 +26,29 @@ pub enum Stream {
 /// What a program prints at its end, and the status that it ends with.
 #[derive(Drop)]
 pub struct Ending {
-    pub text: String,
+    pub message: Message,
     pub stream: Stream,
     pub status: u8,
 }
 
 impl Ending {
-    /// The end with this text, printed there, and this status.
-    pub fn new(text: String, stream: Stream, status: u8) -> Ending
-        ensures { result ≡ record { text = text; stream = stream; status = status } }
+    /// The end with this message, printed there, and this status.
+    pub fn new(message: Message, stream: Stream, status: u8) -> Ending
+        ensures { result ≡ record { message = message; stream = stream; status = status } }
     {
         Ending {
-            text,
+            message,
             stream,
             status,
         }
     }
 
-    /// Prints the text where it belongs, and gives the status.
+    /// Prints the message where it belongs, and gives the status.
     pub fn print(&self, rt: &(impl Print + Eprint)) -> io::Result<ExitCode> {
-        let text = self.text.as_str();
+        let message = &self.message;
         match self.stream {
-            Stream::Output => print!(rt; "{text}")?,
-            Stream::Error => eprint!(rt; "{text}")?,
+            Stream::Output => print!(rt; "{message}")?,
+            Stream::Error => eprint!(rt; "{message}")?,
         }
         Ok(ExitCode::from(self.status))
     }
@@ -54,19 +56,16 @@ impl Ending {
 
 /// The end of a run with this answer, on standard output: its text and status 0, or the line of a refusal and the status that a
 /// refusal has. Where there was no memory for the answer, there is no end either.
-pub fn ending_of(
-    heap: Global,
-    answer: Result<String, Failure>,
-    refused: u8,
-) -> Result<Ending, AllocError>
+pub fn ending_of(answer: Result<String, Failure>, refused: u8) -> Result<Ending, AllocError>
     ensures { EndingOf answer refused result }
 {
     match answer {
-        Ok(text) => Ok(Ending::new(text, Stream::Output, 0)),
-        Err(Failure::Refused(why)) => {
-            let text = format!(in heap; "{why}\n")?;
-            Ok(Ending::new(text, Stream::Output, refused))
-        }
+        Ok(text) => Ok(Ending::new(Message::Text(text), Stream::Output, 0)),
+        Err(Failure::Refused(why)) => Ok(Ending::new(
+            Message::Refused(why),
+            Stream::Output,
+            refused,
+        )),
         Err(Failure::OutOfMemory(error)) => Err(error),
     }
 }

@@ -13,6 +13,6 @@ const REFUSED: u8 = 0;
 fn main(rt: HostRuntime) -> io::Result<ExitCode> {
     let mut image = Vec::new(rt.alloc());
     rt.stdin().read_to_end(&mut image)?;
-    let ending = ending_of(rt.alloc(), sequence_of(rt.alloc(), image), REFUSED)?;
+    let ending = ending_of(sequence_of(rt.alloc(), image), REFUSED)?;
     ending.print(&rt)
 }

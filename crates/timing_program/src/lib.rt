@@ -4,6 +4,7 @@
 
 mod progress;
 
+use base::failure::Failure;
 use ending::Ending;
 use progress::Progress;
 use report::endings::{fault_ending, help_ending, run_ending};
@@ -26,14 +27,14 @@ fn run(rt: &HostRuntime, setup: &Setup) -> anyhow::Result<Ending> {
     let mut progress = Progress::new(rt, setup.clocks)?;
     let answer = timing_of(rt.alloc(), setup, image, &mut progress);
     progress.end();
-    Ok(run_ending(rt.alloc(), answer)?)
+    Ok(run_ending(answer).map_err(Failure::from)?)
 }
 
 /// Does what the words ask for.
 fn ending_for(rt: &HostRuntime, words: &[String]) -> anyhow::Result<Ending> {
     match command_of(words) {
         Ok(Command::Run(setup)) => run(rt, &setup),
-        Ok(Command::Help) => Ok(help_ending(rt.alloc())?),
+        Ok(Command::Help) => Ok(help_ending()),
         Err(fault) => Ok(fault_ending(rt.alloc(), words, fault)?),
     }
 }
